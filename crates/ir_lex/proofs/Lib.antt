@@ -1,0 +1,17 @@
+pub mod Bytes
+pub mod Runs
+pub mod Words
+pub mod Numbers
+pub mod Strings
+pub mod NameLemmas
+pub mod Fits
+pub mod Forms
+pub mod Only
+pub mod Answer
+pub mod SigilAnswers
+pub mod FrontAnswer
+pub mod Gaps
+pub mod Unique
+pub mod Values
+pub mod Steps
+pub mod Plain

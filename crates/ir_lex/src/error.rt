@@ -1,0 +1,10 @@
+//! Why a text has no tokens.
+
+/// Why the tokens of a text were not found.
+#[derive(Clone, Copy, Debug, PartialEq, Eq)]
+pub enum LexError {
+    /// The byte at this place, from 0, is no blank, and begins no comment and no token.
+    BadByte { at: usize },
+    /// There is no memory for the list of tokens.
+    OutOfMemory,
+}
