@@ -1,0 +1,14 @@
+use Rattle.std.proofs.Common.{length}
+use Rattle.ir_model.specs.declared.types.IrType.{IrType}
+use Rattle.ir_lex.specs.Tokenized.{lexemes}
+use Rattle.ir_text.specs.Alike.{AlikeEntry}
+use Rattle.ir_reader.specs.Numbered.{values_by, labels_by, same_number}
+use Rattle.ir_reader.proofs.Walking.{Walked}
+use Rattle.ir_reader.proofs.numbering.lists.entries.Given as goal
+
+abbrev pub invariant-loop-next : goal.invariant-loop-next
+invariant-loop-next l =
+    Walked (λ later old new. (kind : IrType) → AlikeEntry (values_by (lexemes l.tokens) later) (labels_by (lexemes l.tokens) later) same_number kind old new) l.fn.tables l.tables l.fn.entries l.rest l.entries
+
+abbrev pub decreases-loop-next : goal.decreases-loop-next
+decreases-loop-next l = length l.rest

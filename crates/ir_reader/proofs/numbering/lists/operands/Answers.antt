@@ -1,0 +1,14 @@
+use Rattle.ir_lex.specs.Tokenized.{lexemes}
+use Rattle.ir_text.specs.Alike.{AlikeTyped}
+use Rattle.ir_reader.specs.declared.numbering.tables.Tables.{Tables}
+use Rattle.ir_reader.specs.Numbered.{values_by, same_number}
+use Rattle.ir_reader.proofs.Walking.{walked_more, walked_all}
+use Rattle.ir_reader.proofs.numbering.lists.operands.Goals as goal
+
+pub loop-next-preserved : goal.loop-next-preserved
+loop-next-preserved c =
+    rw c.in_ok-push.ensures.ok (walked_more (λ (later : Tables). AlikeTyped (values_by (lexemes c.args.tokens.now) later) same_number) _ c.loop-next.tables _ _ c.loop-next.rest _ c.loop-next.operands c.in-Some.next _ c.loop-next.invariant c.in-Some.ensures c.in_ok-typed.ensures)
+
+pub returns : goal.returns
+returns c =
+    walked_all (λ (later : Tables). AlikeTyped (values_by (lexemes c.args.tokens.now) later) same_number) _ _ _ _ _ c.loop-next.invariant c.in_default.ensures.0
