@@ -1,0 +1,12 @@
+pub mod Joined
+pub mod Again
+pub mod Reading
+pub mod Numerals
+pub mod Steps
+pub mod Words
+pub mod Operands
+pub mod Instructions
+pub mod Functions
+pub mod Typed
+pub mod Alike
+pub mod Whole
