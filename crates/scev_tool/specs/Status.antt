@@ -1,0 +1,32 @@
+-- The statuses by their numbers.
+use Rattle.std.specs.Prelude.{ℕ}
+use Rattle.scev_tool.specs.declared.status.Status.{Status}
+use Rattle.scev_tool.specs.declared.status.Status.TheVariants.{Done, Usage, ReadFault, TooLong, NotInGrammar, Unsupported, Ill, NoFunction, BadArgs, WriteFault, OutOfMemory}
+
+-- the exit status
+abbrev pub code_of : Status → ℕ
+code_of Done = 0
+code_of Usage = 2
+code_of ReadFault = 4
+code_of TooLong = 6
+code_of (NotInGrammar at) = 3
+code_of (Unsupported word at) = 3
+code_of (Ill rule function place) = 3
+code_of NoFunction = 3
+code_of BadArgs = 3
+code_of WriteFault = 5
+code_of OutOfMemory = 7
+
+-- The status is one that a call can answer so far.
+abbrev pub IsAnswered : Status → Type 0
+IsAnswered (Unsupported word at) = ⊥
+IsAnswered (Ill rule function place) = ⊥
+IsAnswered NoFunction = ⊥
+IsAnswered BadArgs = ⊥
+IsAnswered _ = Unit {0}
+
+-- Nothing is written to the output.
+abbrev pub LeavesOutput : Status → Type 0
+LeavesOutput Done = ⊥
+LeavesOutput WriteFault = ⊥
+LeavesOutput _ = Unit {0}
