@@ -1,0 +1,129 @@
+//! `print` on whole inputs.
+
+use crate::call::{Outcome, print};
+use scev_tool::Status;
+use std::test::Fail;
+
+/// A loop of ten turns.
+const TEN_TURNS: &str = "define i32 @f() {
+entry:
+  br label %loop
+loop:
+  %i = phi i32 [ 0, %entry ], [ %i.next, %body ]
+  %c = icmp ult i32 %i, 10
+  br i1 %c, label %body, label %exit
+body:
+  %i.next = add i32 %i, 1
+  br label %loop
+exit:
+  ret i32 %i
+}
+";
+
+/// The same with an operation that isn't read so far.
+const TEN_TURNS_BACK: &str = "define i32 @f() {
+entry:
+  br label %loop
+loop:
+  %i = phi i32 [ 0, %entry ], [ %i.next, %body ]
+  %c = icmp ult i32 %i, 10
+  br i1 %c, label %body, label %exit
+body:
+  %i.next = sub i32 %i, 1
+  br label %loop
+exit:
+  ret i32 %i
+}
+";
+
+/// What is read, and what is printed for it.
+const PRINTED: [(&str, &str); 7] = [
+    (TEN_TURNS, TEN_TURNS),
+    (
+        "define i32 @f(i32 %x){entry: ret i32 4294967295}",
+        "define i32 @f(i32 %x) {\nentry:\n  ret i32 -1\n}\n",
+    ),
+    // Blanks of every kind, a comment, and no line feed at the end.
+    (
+        "; a comment\n\tdefine\r\ni32@f ( i32 %x ,i32 %y )\n{a:br label%b;the end\nb:ret i32%y}",
+        "define i32 @f(i32 %x, i32 %y) {\na:\n  br label %b\nb:\n  ret i32 %y\n}\n",
+    ),
+    // Flags in the other order, and the numerals next to the limits of the signed reading.
+    (
+        "define i32 @f(){a: %x = add nsw nuw i32 2147483647, 2147483648 ret i32 -2147483648}",
+        "define i32 @f() {\na:\n  %x = add nuw nsw i32 2147483647, -2147483648\n  ret i32 -2147483648\n}\n",
+    ),
+    // A numeral with leading zeros, and a minus before zero.
+    (
+        "define i32 @f(){a: %x = add nsw i32 007, -0 ret i32 %x}",
+        "define i32 @f() {\na:\n  %x = add nsw i32 7, 0\n  ret i32 %x\n}\n",
+    ),
+    // Names of every byte that a word may have, a value and a block of one name, and a value without a
+    // definition.
+    (
+        "define i32 @$._-9(i32 %a-){a-:%_ = icmp sge i32 %z, %a- br i1 %_, label %a-, label %q}",
+        "define i32 @$._-9(i32 %a-) {\na-:\n  %_ = icmp sge i32 %z, %a-\n  br i1 %_, label %a-, label %q\n}\n",
+    ),
+    // Two entries of a phi for one block, and a name that is defined twice.
+    (
+        "define i32 @f(){a:%p=phi i32[1,%a],[%p,%a]%p=icmp eq i32 %p,%p br label %a}",
+        "define i32 @f() {\na:\n  %p = phi i32 [ 1, %a ], [ %p, %a ]\n  %p = icmp eq i32 %p, %p\n  br label %a\n}\n",
+    ),
+];
+
+/// What is refused.
+const REFUSED: [&str; 25] = [
+    "",
+    " \t\r\n",
+    "; only a comment",
+    TEN_TURNS_BACK,
+    "define i32 @f(){a: ret i32 4294967296}",
+    "define i32 @f(){a: ret i32 -2147483649}",
+    "define i32 @f(){a: ret i32 }",
+    "define i32 @f(){a: ret i32 1",
+    "define i32 @f(){a: ret i32 1}}",
+    "define i32 @f(){a: ret i32 1} define i32 @g(){a: ret i32 1}",
+    "define i32 @f(){}",
+    "define i32 @f(){ret i32 1}",
+    "define i32 @f(){1: ret i32 1}",
+    "define i32 @f(i32){a: ret i32 1}",
+    "define i32 @f(i32 %1){a: ret i32 1}",
+    "define i32 @f(i32 %\"x\"){a: ret i32 1}",
+    "define i32 @f(i32 %x,){a: ret i32 1}",
+    "define i32 @f(){a: %x = add nuw nuw i32 1, 2 ret i32 %x}",
+    "define i32 @f(){a: add i32 1, 2 ret i32 1}",
+    "define i32 @f(){a: br i1 1, label %a, label %a}",
+    "define i32 @f(){a: %x = phi i32 ret i32 %x}",
+    "define i64 @f(){a: ret i64 1}",
+    "define i32 @f(i32 %-a){a: ret i32 1}",
+    "define i32 @f(){a: ret i32 1}\0",
+    "define i32 @f(){a: ret i32 1} \u{e9}",
+];
+
+fn holds(outcome: &Outcome, status: Status, out: &str, err: &str) -> bool {
+    outcome.status == status
+        && outcome.out.as_slice() == out.as_bytes()
+        && outcome.err.as_slice() == err.as_bytes()
+}
+
+#[test]
+fn prints_modules(rt: HostRuntime) -> Result<(), Fail> {
+    for (input, printed) in PRINTED {
+        let outcome = print(rt.alloc(), input.as_bytes())?;
+        assert!(rt; holds(&outcome, Status::Done, printed, ""), "{input}");
+    }
+    Ok(())
+}
+
+#[test]
+fn refuses_what_spells_no_module(rt: HostRuntime) -> Result<(), Fail> {
+    for input in REFUSED {
+        let outcome = print(rt.alloc(), input.as_bytes())?;
+        let status = Status::NotInGrammar { at: 0 };
+        assert!(rt;
+            holds(&outcome, status, "", "scev: not in grammar at 0\n"),
+            "{input}"
+        );
+    }
+    Ok(())
+}
