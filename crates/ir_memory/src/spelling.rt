@@ -7,7 +7,7 @@ ghost use Rattle.ir_memory.specs.Spelling.{byte_count, spelled, loaded_from, num
 
 use crate::byte::Byte;
 use crate::loaded::Loaded;
-use scev_base::Width;
+use scev_base::{Width, trunc};
 
 /// What bytes give to a load of the width, where they are as many as the width takes.
 pub(crate) fn read_value(bytes: &[Byte], w: Width, choice: u64) -> Loaded
@@ -19,7 +19,7 @@ pub(crate) fn read_value(bytes: &[Byte], w: Width, choice: u64) -> Loaded
     if has_poison(bytes) {
         Loaded::Poison
     } else if has_unwritten(bytes) {
-        Loaded::Number(lowest_bits(choice, w))
+        Loaded::Number(trunc(choice, w))
     } else {
         Loaded::Number(read_number(bytes))
     }
@@ -37,17 +37,6 @@ fn has_unwritten(bytes: &[Byte]) -> bool
     ensures { result ≡ list_any is_unwritten bytes.now }
 {
     bytes.iter().any(|byte| byte.is_unwritten())
-}
-
-/// The number cut to the width.
-fn lowest_bits(number: u64, w: Width) -> u64
-    ensures { result ≡ number % 2 ^ w.bits }
-{
-    if w.get() == 64 {
-        number
-    } else {
-        number % (1 << w.get())
-    }
 }
 
 /// The number that at most eight bytes spell.

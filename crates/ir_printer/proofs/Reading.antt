@@ -1,7 +1,8 @@
 -- The signed reading of a number modulo 2^32.
 use Rattle.std.proofs.Common.{◌≡◌, ℕ, ◌+◌, ◌-◌, ◌*◌, ◌^◌, ◌<◌, ◌/◌, ◌%◌, cond, ltb, ℤ, pos, negsuc, ◌+ℤ◌, ◌*ℤ◌, ◌≤ℤ◌, arith}
 use Rattle.std.proofs.lemmas.Int.{ints}
-use Rattle.ir_text.specs.Printed.{reading, residue, signed_reading}
+use Rattle.scev_base.specs.Residue.{residue, reading}
+use Rattle.ir_text.specs.Printed.{signed_reading}
 
 -- It is from -2^31 to 2^31 - 1.
 pub record IsSigned32 (z : ℤ) : Type 0 where

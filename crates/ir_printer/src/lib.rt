@@ -1,4 +1,4 @@
-//! Prints modules as textual LLVM IR.
+//! Prints modules, and names of values and blocks, as textual LLVM IR.
 #![tactic(auto)]
 
 mod function;
@@ -9,3 +9,4 @@ mod operand;
 mod tests;
 
 pub use module_text::print_module;
+pub use operand::{push_block_name, push_value};

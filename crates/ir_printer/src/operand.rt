@@ -2,13 +2,12 @@
 
 ghost use Rattle.std.specs.Prelude.{◌≡◌, [], ◌++◌, unwrap_or, OnOk};
 ghost use Rattle.std.specs.Fmt.{signed_decimal};
-ghost use Rattle.ir_text.specs.Printed.{printed_name, printed_operand, printed_two};
-ghost use Rattle.ir_text.specs.Printed.{signed_reading as reading_of};
+ghost use Rattle.ir_text.specs.Printed.{printed_name, printed_operand, printed_two, signed_reading};
 ghost use Rattle.ir_text.specs.Thin.{value_name, label_name};
 
 use ir_model::{Operand, Text, ValueInfo};
 use itoa::Buffer;
-use scev_base::{BlockId, ValueId};
+use scev_base::{BlockId, ValueId, Width, signed, wrap};
 use sqlite_items::at;
 use std::alloc::AllocError;
 
@@ -57,24 +56,13 @@ pub fn push_block_name(
     out.extend_from_slice(name_of_block(labels, block))
 }
 
-/// The number from -2^31 to 2^31 - 1 that agrees with `n` modulo 2^32.
-fn signed_reading(n: i128) -> i128
-    ensures { result ≡ reading_of 32 n }
-{
-    let residue = n.rem_euclid(1 << 32);
-    if residue < 1 << 31 {
-        residue
-    } else {
-        residue - (1 << 32)
-    }
-}
-
-/// Appends a numeral.
+/// Appends a numeral: the number from -2^31 to 2^31 - 1 that agrees with `n` modulo 2^32.
 fn push_numeral(out: &mut Vec<u8>, n: i128) -> Result<(), AllocError>
-    ensures { OnOk result (out.new.items ≡ out.old.items ++ signed_decimal (reading_of 32 n)) }
+    ensures { OnOk result (out.new.items ≡ out.old.items ++ signed_decimal (signed_reading 32 n)) }
 {
+    let word = Width { bits: 32 };
     let mut buffer = Buffer::new();
-    out.extend_from_slice(buffer.format(signed_reading(n)).as_bytes())
+    out.extend_from_slice(buffer.format(signed(wrap(n, word), word)).as_bytes())
 }
 
 /// Appends an operand: a register by its name, a numeral by its signed reading.

@@ -1,7 +1,8 @@
 -- The printed text of a thin module.
-use Rattle.std.specs.Prelude.{ℕ, ◌-◌, ◌+◌, ◌*◌, ◌^◌, ◌%◌, Bool, if◌then◌else◌, nat_lt, List, [], ◌∷◌, ◌++◌, ℤ, pos, negsuc, neg_ℤ, Option, Some, None, unwrap_or, codes}
+use Rattle.std.specs.Prelude.{ℕ, Bool, if◌then◌else◌, List, [], ◌∷◌, ◌++◌, ℤ, Option, Some, None, unwrap_or, codes}
 use Rattle.std.specs.Fmt.{signed_decimal}
 use Rattle.std.specs.List.{flat_map}
+use Rattle.scev_base.specs.Residue.{residue, reading}
 use Rattle.scev_base.specs.declared.ids.ValueId.{ValueId}
 use Rattle.ir_model.specs.declared.op.Operand.{Operand}
 use Rattle.ir_model.specs.declared.op.Operand.TheVariants as operand
@@ -16,15 +17,6 @@ use Rattle.ir_model.specs.declared.item.Item.{Item}
 use Rattle.ir_model.specs.declared.item.Item.TheVariants.{Define}
 use Rattle.ir_model.specs.declared.item.Module.{Module}
 use Rattle.ir_text.specs.Thin.{Names, value_name, label_name, pred_text}
-
--- the residue of a number modulo 2^w
-abbrev pub residue : ℕ → ℤ → ℕ
-residue w (pos n) = n % 2 ^ w
-residue w (negsuc n) = 2 ^ w - (n % 2 ^ w + 1)
-
--- the number from -2^(w-1) to 2^(w-1) - 1 that has this residue modulo 2^w
-abbrev pub reading : ℕ → ℕ → ℤ
-reading w r = if nat_lt (2 * r) (2 ^ w) then pos r else neg_ℤ (pos (2 ^ w - r))
 
 -- a numeral is printed by its signed reading
 abbrev pub signed_reading : ℕ → ℤ → ℤ

@@ -1,0 +1,4 @@
+pub mod Residue
+pub mod Iterated
+pub mod Counting
+pub mod Nest
