@@ -1,0 +1,7 @@
+pub mod AlgebraLemmas
+pub mod FormingLemmas
+pub mod PlanLemmas
+pub mod LoopLemmas
+pub mod ResidueLemmas
+pub mod CarryLemmas
+pub mod SumLemmas
