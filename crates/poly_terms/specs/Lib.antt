@@ -1,0 +1,3 @@
+pub mod Monomials
+pub mod Terms
+pub mod Weights

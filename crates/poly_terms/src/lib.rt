@@ -1,0 +1,19 @@
+//! Polynomials modulo 2^w over atoms, which are known by the numbers of their expressions.
+#![tactic(auto)]
+
+mod error;
+mod factors;
+pub mod laws;
+mod limit;
+mod merge;
+mod monomial;
+mod product;
+mod term;
+mod terms;
+#[cfg(test)]
+mod tests;
+
+pub use error::TermError;
+pub use factors::Factors;
+pub use term::Term;
+pub use terms::Terms;
