@@ -1,0 +1,13 @@
+pub mod Thin
+pub mod Values
+pub mod State
+pub mod Operands
+pub mod Rows
+pub mod Step
+pub mod Run
+pub mod Refinement
+pub mod Stands
+pub mod Narrow
+pub mod Effects
+pub mod Taken
+pub mod Zeros

@@ -1,0 +1,120 @@
+-- One step of a run.
+use Rattle.std.specs.Prelude.{ℕ, ◌+◌, ◌==◌, List, [], ◌∷◌, length, Bool, true, false, if◌then◌else◌, Option, Some, None, option_and_then, option_map, slice_get, find, take_while}
+use Rattle.scev_base.specs.declared.ids.ValueId.{ValueId}
+use Rattle.ir_model.specs.declared.types.IrType.TheVariants.{Int}
+use Rattle.ir_model.specs.declared.op.Operand.{Operand}
+use Rattle.ir_model.specs.declared.op.BinOp.TheVariants as binary
+use Rattle.ir_model.specs.declared.op.PhiEntry.{PhiEntry}
+use Rattle.ir_model.specs.declared.op.Op.{Op}
+use Rattle.ir_model.specs.declared.op.Op.TheVariants.{Binary, Icmp, Phi, Jump, Branch, Ret, Unreachable}
+use Rattle.ir_model.specs.declared.function.Instr.{Instr}
+use Rattle.ir_model.specs.declared.function.Block.{Block}
+use Rattle.ir_model.specs.declared.function.Function.{Function}
+use Rattle.ir_meaning.specs.declared.value.Value.{Value}
+use Rattle.ir_meaning.specs.declared.value.Value.TheVariants as value
+use Rattle.ir_meaning.specs.declared.phase.Phase.{Phase}
+use Rattle.ir_meaning.specs.declared.phase.Phase.TheVariants as phase
+use Rattle.ir_meaning.specs.declared.choice.Choice.{Choice}
+use Rattle.ir_meaning.specs.State.{Registers, set, State, is_running, ended}
+use Rattle.ir_meaning.specs.Operands.{chosen, operand_value}
+use Rattle.ir_meaning.specs.Rows.{on_numbers, added, compared}
+
+-- What an instruction does: it gives a value, control goes to a block, or the run ends.
+pub data Effect : Type 0 where
+  Gives : Value → Effect
+  Enters : ℕ → Effect
+  Ends : Phase → Effect
+
+-- what follows from an operand's value; without one the run is stuck
+abbrev pub with_value : Option Value → (Value → Effect) → Effect
+with_value None what = Ends phase.Stuck
+with_value (Some x) what = what x
+
+-- where a branch on a value goes: nowhere on poison, whose behaviour is undefined
+abbrev pub branched : Value → ℕ → ℕ → Effect
+branched (value.Number n) there else_there = Enters (if n == 0 then else_there else there)
+branched _ there else_there = Ends phase.Undefined
+
+-- The effect of an instruction, with the registers and the chosen number, row by row. A phi has none: it is carried out by
+-- the branch that enters its block. Of the operations without a row of their own the meaning isn't given yet: a run is
+-- stuck at them.
+abbrev pub effect : Registers → ℕ → Op → Effect
+effect registers n (Binary binary.Add nuw nsw exact disjoint (Int w) left right) =
+    with_value (operand_value registers n (Int w) left) (λ a.
+    with_value (operand_value registers n (Int w) right) (λ b.
+    Gives (on_numbers (added w nuw nsw) a b)))
+effect registers n (Icmp pred (Int w) left right) =
+    with_value (operand_value registers n (Int w) left) (λ a.
+    with_value (operand_value registers n (Int w) right) (λ b.
+    Gives (on_numbers (compared pred w) a b)))
+effect registers n (Jump to) = Enters to.0
+effect registers n (Branch cond there else_there) =
+    with_value (operand_value registers n (Int 1) cond) (λ c. branched c there.0 else_there.0)
+effect registers n (Ret None) = Ends (phase.Returned None)
+effect registers n (Ret (Some typed)) =
+    with_value (operand_value registers n typed.kind typed.value) (λ x. Ends (phase.Returned (Some x)))
+effect registers n Unreachable = Ends phase.Undefined
+effect registers n _ = Ends phase.Stuck
+
+-- the block of this number: the first one in text order
+abbrev pub block_of : Function → ℕ → Option Block
+block_of f b = find (λ block. block.id.0 == b) f.blocks
+
+abbrev pub is_phi : Op → Bool
+is_phi (Phi kind entries) = true
+is_phi _ = false
+
+-- the phis that stand before all other instructions
+abbrev pub leading_phis : List Instr → List Instr
+leading_phis instrs = take_while (λ instr. is_phi instr.op) instrs
+
+-- the operand that a phi has for control from the block: that of the first entry with it
+abbrev pub entry_from : ℕ → List PhiEntry → Option Operand
+entry_from from entries = option_map (λ entry. entry.value) (find (λ entry. entry.from.0 == from) entries)
+
+-- the value of a phi where control comes from the block
+abbrev pub phi_value : Registers → ℕ → ℕ → Op → Option Value
+phi_value registers n from (Phi kind entries) = option_and_then (operand_value registers n kind) (entry_from from entries)
+phi_value registers n from _ = None
+
+-- All phis at once: the value of each is read in the registers before, and set in those after. There are none where a phi
+-- has no value.
+abbrev pub with_phis : Registers → ℕ → ℕ → List Instr → Registers → Option Registers
+with_phis before n from [] after = Some after
+with_phis before n from (instr ∷ instrs) after =
+    option_and_then (λ x. with_phis before n from instrs (set after instr.result x)) (phi_value before n from instr.op)
+
+-- the state behind the leading phis of a block that control enters
+abbrev pub behind_phis : ℕ → Block → State → Option Registers → State
+behind_phis b block s None = ended phase.Stuck s
+behind_phis b block s (Some registers) = record s {
+  block = b;
+  place = length (leading_phis block.instrs);
+  previous = Some s.block;
+  registers = registers;
+  trail = b ∷ s.trail;
+}
+
+abbrev pub entered : ℕ → ℕ → State → Option Block → State
+entered n b s None = ended phase.Stuck s
+entered n b s (Some block) =
+    behind_phis b block s (with_phis s.registers n s.block (leading_phis block.instrs) s.registers)
+
+-- the state after an effect
+abbrev pub after_effect : Function → ℕ → Option ValueId → State → Effect → State
+after_effect f n result s (Gives x) = record s { place = s.place + 1; registers = set s.registers result x }
+after_effect f n result s (Enters b) = entered n b s (block_of f b)
+after_effect f n result s (Ends how) = ended how s
+
+-- the instruction at which a state stands
+abbrev pub instr_at : Function → State → Option Instr
+instr_at f s = option_and_then (λ block. slice_get block.instrs s.place) (block_of f s.block)
+
+abbrev pub carried_out : Function → ℕ → State → Option Instr → State
+carried_out f n s None = ended phase.Stuck s
+carried_out f n s (Some instr) = after_effect f n instr.result s (effect s.registers n instr.op)
+
+-- One step: the instruction is carried out, and with a branch all phis of the entered block. A run that has come to an end
+-- stays as it is.
+unfoldable pub step : Function → Choice → State → State
+step f choice s = if is_running s.phase then carried_out f (chosen choice) s (instr_at f s) else s
