@@ -1,0 +1,76 @@
+//! The blocks of a function as a graph.
+
+ghost use Rattle.std.specs.Prelude.{◌≡◌, ◌++◌, [], map, replicate, IfOk, OnOk};
+ghost use Rattle.ir_meaning.specs.Thin.{IsThinFunction};
+ghost use Rattle.loop_regions.specs.Walks.{targets, successors};
+ghost use Rattle.loop_regions.specs.Graph.{IsGraphOf};
+
+use ir_model::{Case, Function, Instr, Op};
+use sqlite_items::Items;
+use std::alloc::{AllocError, Global};
+
+/// The graph of the function's edges, by the numbers of its blocks. Where more blocks have a number, the
+/// first one counts.
+pub(crate) fn arcs(alloc: Global, f: &Function) -> Result<Items<Items<usize>>, AllocError>
+    requires { IsThinFunction f.now }
+    ensures { IfOk result (λ graph. IsGraphOf f.now graph) }
+{
+    let blocks = f.blocks.as_slice();
+    let mut graph = Items::from_vec(no_arcs(alloc, f.labels.len())?);
+    for i in (0..blocks.len()).rev() {
+        let block = &blocks[i];
+        let targets = block_targets(alloc, block.instrs.as_slice())?;
+        graph.set(block.id.0 as usize, targets);
+    }
+    Ok(graph)
+}
+
+/// A graph of so many nodes without arcs.
+pub(crate) fn no_arcs(alloc: Global, nodes: usize) -> Result<Vec<Items<usize>>, AllocError>
+    ensures { IfOk result (λ graph. graph.items ≡ replicate nodes []) }
+{
+    let mut graph = Vec::new(alloc);
+    for _i in 0..nodes {
+        graph.push(Items::new(alloc))?;
+    }
+    Ok(graph)
+}
+
+/// The blocks to which the instructions of a block may lead.
+fn block_targets(alloc: Global, instrs: &[Instr]) -> Result<Items<usize>, AllocError>
+    ensures { IfOk result (λ out. out ≡ successors instrs.now) }
+{
+    let mut out = Items::new(alloc);
+    for instr in instrs {
+        push_targets(&instr.op, &mut out)?;
+    }
+    Ok(out)
+}
+
+/// Adds the blocks to which an instruction may lead.
+fn push_targets(op: &Op, out: &mut Items<usize>) -> Result<(), AllocError>
+    ensures { OnOk result (out.new ≡ out.old ++ targets op.now) }
+{
+    match op {
+        Op::Jump { to } => out.push(to.0 as usize),
+        Op::Branch { yes, no, .. } => {
+            out.push(yes.0 as usize)?;
+            out.push(no.0 as usize)
+        }
+        Op::Switch { other, cases, .. } => {
+            out.push(other.0 as usize)?;
+            push_cases(cases.as_slice(), out)
+        }
+        _ => Ok(()),
+    }
+}
+
+/// Adds the blocks to which the cases of a switch lead.
+fn push_cases(cases: &[Case], out: &mut Items<usize>) -> Result<(), AllocError>
+    ensures { OnOk result (out.new ≡ out.old ++ map (λ one. one.to.0) cases.now) }
+{
+    for case in cases {
+        out.push(case.to.0 as usize)?;
+    }
+    Ok(())
+}
