@@ -1,0 +1,2 @@
+//! Definitions alone: expressions of scalar evolution as plain trees, and the values that they have.
+#![tactic(auto)]
