@@ -1,0 +1,16 @@
+pub mod AffineValue
+pub mod DefinedOnce
+pub mod KeptNumbers
+pub mod RecurrenceShape
+pub mod RecurrenceInvariant
+pub mod PhiLoops
+pub mod IncrementLemmas
+pub mod GivenLemmas
+pub mod PhiLemmas
+pub mod PhiAnswers
+pub mod RecurrenceTruth
+pub mod OneAnswer
+pub mod TallyLemmas
+pub mod PlaceLemmas
+pub mod ThinNames
+pub mod FirstPhis

@@ -1,0 +1,8 @@
+use Rattle.std.proofs.Common.{◌≡◌, take}
+use Rattle.std.specs.Prelude.{flat_map}
+use Rattle.classify.specs.Names.{operands, register_of}
+use Rattle.classify.specs.Tally.{all_counted}
+use Rattle.classify.proofs.names.count_uses.Given as goal
+
+abbrev pub invariant-loop-instr : goal.invariant-loop-instr
+invariant-loop-instr l = l.used ≡ all_counted l.initial.used (flat_map (λ instr. flat_map register_of (operands instr.op)) (take l.instr-index l.instrs))

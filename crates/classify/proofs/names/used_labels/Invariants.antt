@@ -1,0 +1,10 @@
+use Rattle.std.proofs.Common.{◌≡◌, ◌++◌, take, replicate, length}
+use Rattle.std.specs.Prelude.{flat_map}
+use Rattle.loop_regions.specs.Walks.{targets}
+use Rattle.classify.specs.declared.tally.Often.TheVariants.{Never}
+use Rattle.classify.specs.Names.{sources, instructions}
+use Rattle.classify.specs.Tally.{all_counted}
+use Rattle.classify.proofs.names.used_labels.Given as goal
+
+abbrev pub invariant-loop-block : goal.invariant-loop-block
+invariant-loop-block l = l.used ≡ all_counted (replicate (length l.f.labels) Never) (flat_map (λ instr. targets instr.op ++ sources instr.op) (instructions (take l.block-index l.f.blocks)))
