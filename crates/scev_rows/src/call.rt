@@ -54,9 +54,18 @@ pub fn sink(alloc: Global) -> Result<MemorySink, AllocError> {
 
 /// `print` over these bytes, with objects that never fail.
 pub fn print(alloc: Global, input: &[u8]) -> Result<Outcome, AllocError> {
+    one_word(alloc, "print", input)
+}
+
+/// `report` over these bytes, with objects that never fail.
+pub fn report(alloc: Global, input: &[u8]) -> Result<Outcome, AllocError> {
+    one_word(alloc, "report", input)
+}
+
+fn one_word(alloc: Global, word: &str, input: &[u8]) -> Result<Outcome, AllocError> {
     call(
         alloc,
-        &["print"],
+        &[word],
         source(alloc, input)?,
         sink(alloc)?,
         sink(alloc)?,

@@ -10,12 +10,14 @@ const SMALL: &[u8] = b"define i32 @f(){a: ret i32 7}";
 
 const SMALL_PRINTED: &[u8] = b"define i32 @f() {\na:\n  ret i32 7\n}\n";
 
-const WRONG_WORDS: [&[&str]; 5] = [
+const WRONG_WORDS: [&[&str]; 7] = [
     &[],
     &["Print"],
     &["print", "print"],
     &["print", ""],
     &["--print"],
+    &["print", "report"],
+    &["reports"],
 ];
 
 fn one(alloc: Global, number: u64) -> Result<Vec<u64>, AllocError> {

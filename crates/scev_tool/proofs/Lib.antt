@@ -1,3 +1,12 @@
 pub mod Adding
 pub mod Answered
+pub mod FunctionLines
+pub mod Headers
+pub mod Items
+pub mod OneReport
+pub mod Phis
+pub mod Pieces
+pub mod Recurrences
+pub mod Texts
+pub mod ThinForms
 pub mod Words

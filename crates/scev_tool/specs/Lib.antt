@@ -1,4 +1,6 @@
-pub mod Words
 pub mod Status
 pub mod Message
 pub mod Print
+pub mod Report
+pub mod Mode
+pub mod Answer

@@ -1,11 +1,14 @@
-//! The mode `print`.
+//! What a mode answers.
 
 ghost use Rattle.std.specs.Prelude.{◌≡◌, ◌≤◌, List, ◌<◌, ℕ, length, Option, IfOk, IfErr, IfSome};
 ghost use Rattle.scev_outside.specs.Bytes.{Gave};
 ghost use Rattle.scev_outside.specs.Faults.{Rose};
-ghost use Rattle.scev_tool.specs.Print.{IsPrintOf, IsRefusalOf, IsInputRefusal, IsPrintAnswer};
+ghost use Rattle.scev_tool.specs.Answer.{IsRefusalOf, IsInputRefusal, IsModeAnswer};
+ghost use Rattle.scev_tool.specs.Mode.{IsTextOf};
 ghost use Rattle.scev_tool.specs.Status.{LeavesOutput};
 
+use crate::mode::Mode;
+use crate::report::report_module;
 use crate::status::Status;
 use ir_printer::print_module;
 use ir_reader::{ReadFault, read_module};
@@ -15,9 +18,9 @@ use std::alloc::Global;
 /// The greatest length of an input, in bytes.
 const INPUT_LIMIT: usize = 8_388_608;
 
-/// The printed text of the module that the bytes spell, or why there is none.
-fn text_of(alloc: Global, bytes: &[u8]) -> Result<Vec<u8>, Status>
-    ensures text { IfOk result (λ text. IsPrintOf bytes.now text.items) }
+/// The mode's text for the module that the bytes spell, or why there is none.
+fn text_of(alloc: Global, mode: Mode, bytes: &[u8]) -> Result<Vec<u8>, Status>
+    ensures text { IfOk result (λ text. IsTextOf mode bytes.now text.items) }
     ensures refused { IfErr result (λ status. IsRefusalOf bytes.now status) }
 {
     let module = match read_module(alloc, bytes) {
@@ -26,7 +29,11 @@ fn text_of(alloc: Global, bytes: &[u8]) -> Result<Vec<u8>, Status>
         Err(ReadFault::Unsupported { word, at }) => return Err(Status::Unsupported { word, at }),
         Err(ReadFault::OutOfMemory) => return Err(Status::OutOfMemory),
     };
-    match print_module(alloc, &module) {
+    let text = match mode {
+        Mode::Print => print_module(alloc, &module),
+        Mode::Report => report_module(alloc, &module),
+    };
+    match text {
         Ok(text) => Ok(text),
         Err(_) => Err(Status::OutOfMemory),
     }
@@ -49,10 +56,10 @@ fn input_of<S: Source>(alloc: Global, source: &mut S) -> Result<Vec<u8>, Status>
     }
 }
 
-/// Reads the source to its end, and writes the printed text of the module that it spells. The text is
-/// built whole before its first byte is written.
-pub fn print<S: Source, K: Sink>(alloc: Global, source: &mut S, out: &mut K) -> Status
-    ensures answer { IsPrintAnswer (record {
+/// Reads the source to its end, and writes the mode's text for the module that it spells. The text is built
+/// whole before its first byte is written.
+pub fn answer<S: Source, K: Sink>(alloc: Global, mode: Mode, source: &mut S, out: &mut K) -> Status
+    ensures answer { IsModeAnswer mode (record {
       left = S.left source.old;
       taken_old = K.taken out.old;
       taken_new = K.taken out.new;
@@ -70,7 +77,7 @@ pub fn print<S: Source, K: Sink>(alloc: Global, source: &mut S, out: &mut K) -> 
         Ok(bytes) => bytes,
         Err(status) => return status,
     };
-    let text = match text_of(alloc, &bytes) {
+    let text = match text_of(alloc, mode, &bytes) {
         Ok(text) => text,
         Err(status) => return status,
     };

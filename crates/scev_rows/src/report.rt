@@ -1,0 +1,162 @@
+//! `report` on whole inputs.
+
+use crate::call::report;
+use scev_tool::Status;
+use std::test::Fail;
+
+/// What is read, and what is reported of it.
+const REPORTED: [(&str, &str); 16] = [
+    // A start and a step by their signed readings.
+    (
+        "define i32 @f() {
+entry:
+  br label %loop
+loop:
+  %i = phi i32 [ 4294967295, %entry ], [ %i.next, %loop ]
+  %i.next = add i32 %i, -3
+  %c = icmp ult i32 %i, 10
+  br i1 %c, label %loop, label %exit
+exit:
+  ret i32 %i
+}
+",
+        "; scev report 1\n; function @f\n; loop %loop depth 1\n; phi %i = {-1,+,-3}<%loop>\n",
+    ),
+    // Two entries from outside that start at one number, written in two ways.
+    (
+        "define i32 @f(i32 %n){a: %c = icmp eq i32 %n, 0 br i1 %c, label %b, label %l
+b: br label %l
+l: %i = phi i32 [ -1, %a ], [ 4294967295, %b ], [ %j, %l ] %j = add i32 %i, 1
+%d = icmp ne i32 %j, %n br i1 %d, label %l, label %e
+e: ret i32 %i}",
+        "; scev report 1\n; function @f\n; loop %l depth 1\n; phi %i = {-1,+,1}<%l>\n",
+    ),
+    // Two that start at different ones.
+    (
+        "define i32 @f(i32 %n){a: %c = icmp eq i32 %n, 0 br i1 %c, label %b, label %l
+b: br label %l
+l: %i = phi i32 [ 1, %a ], [ 2, %b ], [ %j, %l ] %j = add i32 %i, 1
+%d = icmp ne i32 %j, %n br i1 %d, label %l, label %e
+e: ret i32 %i}",
+        "; scev report 1\n; function @f\n; loop %l depth 1\n; phi %i = %i\n",
+    ),
+    // A step by a register.
+    (
+        "define i32 @f(i32 %n){a: br label %l
+l: %i = phi i32 [ 0, %a ], [ %j, %l ] %j = add i32 %i, %n
+%d = icmp ne i32 %j, 7 br i1 %d, label %l, label %e
+e: ret i32 %i}",
+        "; scev report 1\n; function @f\n; loop %l depth 1\n; phi %i = %i\n",
+    ),
+    // The numeral on the left, behind flags; and steps and starts at the limits of the signed reading.
+    (
+        "define i32 @f(i32 %n){a: br label %l
+l: %i = phi i32 [ %j, %l ], [ 2147483648, %a ]
+%k = phi i32 [ 2147483647, %a ], [ %m, %l ]
+%j = add nuw nsw i32 2147483647, %i %m = add nsw i32 %k, 2147483648
+%d = icmp ne i32 %j, %n br i1 %d, label %l, label %e
+e: ret i32 %i}",
+        "; scev report 1\n; function @f\n; loop %l depth 1\n; phi %i = {-2147483648,+,2147483647}<%l>\n; phi %k = {2147483647,+,-2147483648}<%l>\n",
+    ),
+    // A step of zero.
+    (
+        "define i32 @f(){a: br label %l
+l: %i = phi i32 [ 5, %a ], [ %j, %l ] %j = add i32 0, %i br label %l}",
+        "; scev report 1\n; function @f\n; loop %l depth 1\n; phi %i = {5,+,0}<%l>\n",
+    ),
+    // Two loops in one function, in text order and not in that of control.
+    (
+        "define i32 @f(i32 %n){a: br label %s
+r: %i = phi i32 [ 0, %s ], [ %j, %r ] %j = add i32 %i, 1
+%c = icmp ult i32 %j, %n br i1 %c, label %r, label %e
+s: %k = phi i32 [ 9, %a ], [ %m, %s ] %m = add i32 %k, -1
+%d = icmp ne i32 %m, 0 br i1 %d, label %s, label %r
+e: ret i32 %i}",
+        "; scev report 1\n; function @f\n; loop %r depth 1\n; phi %i = {0,+,1}<%r>\n; loop %s depth 1\n; phi %k = {9,+,-1}<%s>\n",
+    ),
+    // A block with an edge to itself is no such loop where a second walk leads back to it.
+    (
+        "define i32 @f(i32 %n){a: br label %l
+l: %i = phi i32 [ 0, %a ], [ %j, %l ], [ 0, %b ] %j = add i32 %i, 1
+%c = icmp ult i32 %j, %n br i1 %c, label %l, label %b
+b: %d = icmp ne i32 %j, 3 br i1 %d, label %l, label %e
+e: ret i32 %i}",
+        "; scev report 1\n; function @f\n",
+    ),
+    // A register that is defined twice: no phi of the function is a recurrence.
+    (
+        "define i32 @f(i32 %n){a: br label %l
+l: %i = phi i32 [ 0, %a ], [ %j, %l ] %i = phi i32 [ 0, %a ], [ %j, %l ] %j = add i32 %i, 1
+%c = icmp ult i32 %j, %n br i1 %c, label %l, label %e
+e: ret i32 %i}",
+        "; scev report 1\n; function @f\n; loop %l depth 1\n; phi %i = %i\n; phi %i = %i\n",
+    ),
+    // A phi behind another instruction: no phi of the block is a recurrence.
+    (
+        "define i32 @f(i32 %n){a: br label %l
+l: %i = phi i32 [ 0, %a ], [ %j, %l ] %j = add i32 %i, 1 %k = phi i32 [ 0, %a ], [ 1, %l ]
+%c = icmp ult i32 %j, %n br i1 %c, label %l, label %e
+e: ret i32 %i}",
+        "; scev report 1\n; function @f\n; loop %l depth 1\n; phi %i = %i\n; phi %k = %k\n",
+    ),
+    // A loop that control doesn't reach.
+    (
+        "define i32 @f(i32 %n){a: ret i32 %n
+l: %i = phi i32 [ 0, %a ], [ %j, %l ] %j = add i32 %i, 1 br label %l}",
+        "; scev report 1\n; function @f\n",
+    ),
+    // No entry from outside, and two entries from the block itself.
+    (
+        "define i32 @f(i32 %n){a: br label %l
+l: %i = phi i32 [ %j, %l ] %k = phi i32 [ 0, %a ], [ %m, %l ], [ %m, %l ]
+%j = add i32 %i, 1 %m = add i32 %k, 1 br label %l}",
+        "; scev report 1\n; function @f\n; loop %l depth 1\n; phi %i = %i\n; phi %k = %k\n",
+    ),
+    // Both targets of a branch are the block itself.
+    (
+        "define i32 @f(i32 %n){a: br label %l
+l: %i = phi i32 [ 0, %a ], [ %j, %l ] %j = add i32 %i, 1
+%c = icmp ult i32 %j, %n br i1 %c, label %l, label %l}",
+        "; scev report 1\n; function @f\n; loop %l depth 1\n; phi %i = {0,+,1}<%l>\n",
+    ),
+    // What is added isn't the phi itself; and what comes back is no sum.
+    (
+        "define i32 @f(i32 %n){a: br label %l
+l: %i = phi i32 [ 0, %a ], [ %j, %l ] %k = phi i32 [ 0, %a ], [ %i, %l ]
+%j = add i32 %k, 1 br label %l}",
+        "; scev report 1\n; function @f\n; loop %l depth 1\n; phi %i = %i\n; phi %k = %k\n",
+    ),
+    // A loop without phis.
+    (
+        "define i32 @f(){a: br label %l l: br label %l}",
+        "; scev report 1\n; function @f\n; loop %l depth 1\n",
+    ),
+    // The first block is a loop.
+    (
+        "define i32 @f(i32 %n){a: %c = icmp eq i32 %n, 0 br i1 %c, label %a, label %b b: ret i32 0}",
+        "; scev report 1\n; function @f\n; loop %a depth 1\n",
+    ),
+];
+
+#[test]
+fn reported(rt: HostRuntime) -> Result<(), Fail> {
+    for (input, text) in REPORTED {
+        let outcome = report(rt.alloc(), input.as_bytes())?;
+        assert_eq!(rt; outcome.status, Status::Done);
+        assert_eq!(rt; outcome.out.as_slice(), text.as_bytes());
+        assert_eq!(rt; outcome.err.as_slice(), b"".as_slice());
+    }
+    Ok(())
+}
+
+#[test]
+fn what_is_no_module_has_no_report(rt: HostRuntime) -> Result<(), Fail> {
+    let outcome = report(rt.alloc(), b"define i32 @f(){a: ret i32}")?;
+    assert_eq!(rt; outcome.status, Status::NotInGrammar { at: 0 });
+    assert_eq!(rt; outcome.out.as_slice(), b"".as_slice());
+    assert_eq!(rt;
+        outcome.err.as_slice(),
+        b"scev: not in grammar at 0\n".as_slice()
+    );
+    Ok(())
+}
