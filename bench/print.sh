@@ -3,23 +3,7 @@
 # three times with the least time kept. Prints seconds, their ratio, and how the time grew from each size to the
 # next. Needs opt-22 (Debian's llvm-22) and the built program (./scev builds it).
 here=$(dirname "$(readlink -f "$0")") || exit 2
-program=$here/../crates/scev/out/scev
-peer=${OPT:-opt-22}
-"$here/../scev" print </dev/null >/dev/null 2>&1
-work=$(mktemp -d) || exit 2
-trap 'rm -rf "$work"' EXIT
-
-# the least seconds of three runs of a command on a file
-seconds() {
-    file=$1
-    shift
-    for _ in 1 2 3; do
-        start=$(date +%s.%N)
-        "$@" <"$file" >"$work/out" || exit 1
-        end=$(date +%s.%N)
-        echo "$start $end"
-    done | awk '{ t = $2 - $1; if (NR == 1 || t < least) least = t } END { printf "%.4f", least }'
-}
+. "$here/seconds.sh"
 
 printf '%10s %10s %10s %8s %8s %8s\n' bytes scev opt ratio growth opt-growth
 old=0

@@ -1,0 +1,18 @@
+# Sourced by the benchmarks: builds the program, makes a folder for files, and times commands.
+program=$here/../crates/scev/out/scev
+peer=${OPT:-opt-22}
+"$here/../scev" print </dev/null >/dev/null 2>&1
+work=$(mktemp -d) || exit 2
+trap 'rm -rf "$work"' EXIT
+
+# the least seconds of three runs of a command on a file
+seconds() {
+    file=$1
+    shift
+    for _ in 1 2 3; do
+        start=$(date +%s.%N)
+        "$@" <"$file" >"$work/out" 2>/dev/null || exit 1
+        end=$(date +%s.%N)
+        echo "$start $end"
+    done | awk '{ t = $2 - $1; if (NR == 1 || t < least) least = t } END { printf "%.4f", least }'
+}
