@@ -22,10 +22,12 @@ label name = record { kind = Label; text = name ++ 58 ∷ [] }
 -- each thing of a list is spelled, one after another
 abbrev pub InSequence : {A : Type 0} → (A → List Lexeme → Type 0) → List A → List Lexeme → Type 0
 InSequence Spells [] ts = ts ≡ []
-InSequence Spells (x ∷ xs) ts = (front rest : List Lexeme) × (ts ≡ front ++ rest) × Spells x front × InSequence Spells xs rest
+InSequence Spells (x ∷ xs) ts = (front rest : List Lexeme) × (ts ≡ front ++ rest) × Spells x front
+    × InSequence Spells xs rest
 
 -- one thing or more, with commas between them
 abbrev pub SeparatedByCommas : {A : Type 0} → (A → List Lexeme → Type 0) → List A → List Lexeme → Type 0
 SeparatedByCommas Spells [] ts = ⊥
 SeparatedByCommas Spells (x ∷ []) ts = Spells x ts
-SeparatedByCommas Spells (x ∷ y ∷ ys) ts = (front rest : List Lexeme) × (ts ≡ front ++ (sign 44 ∷ rest)) × Spells x front × SeparatedByCommas Spells (y ∷ ys) rest
+SeparatedByCommas Spells (x ∷ y ∷ ys) ts = (front rest : List Lexeme) × (ts ≡ front ++ (sign 44 ∷ rest))
+    × Spells x front × SeparatedByCommas Spells (y ∷ ys) rest

@@ -28,7 +28,8 @@ pub record SameFunction (f g : Function) : Type 0 where
   pub words : f.words ≡ g.words
   pub ret : f.ret ≡ g.ret
   pub params : EachAlike (AlikeParam (Renames values_to values_from f.values g.values)) f.params g.params
-  pub blocks : EachAlike (AlikeBlock (Renames values_to values_from f.values g.values) (Renames labels_to labels_from f.labels g.labels) SameNumber) f.blocks g.blocks
+  pub blocks : EachAlike (AlikeBlock (Renames values_to values_from f.values g.values)
+      (Renames labels_to labels_from f.labels g.labels) SameNumber) f.blocks g.blocks
 
 -- Items outside functions with a body have no ids.
 abbrev pub SameItem : Item → Item → Type 0

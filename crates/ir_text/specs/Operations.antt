@@ -1,0 +1,275 @@
+-- How instructions are written, one production each, with the names that are mentioned in them; ids are 0.
+use Rattle.std.specs.Prelude.{◌≡◌, ℕ, Bool, true, false, List, [], ◌∷◌, ◌++◌, IsTrue, ◌⊎◌, ◌↔◌, ℤ, pos, Option, Some, None, Contains, All, map, codes, decimal, nat_eq}
+use Rattle.std.specs.List.{starts_with, IsDistinct}
+use Rattle.std.specs.Str.{bytes_eq}
+use Rattle.scev_base.specs.declared.pred.Pred.{Pred}
+use Rattle.scev_base.specs.declared.pred.Pred.TheVariants as pred
+use Rattle.ir_model.specs.declared.types.IrType.{IrType}
+use Rattle.ir_model.specs.declared.types.IrType.TheVariants.{Int}
+use Rattle.ir_model.specs.declared.op.Operand.{Operand}
+use Rattle.ir_model.specs.declared.op.Operand.TheVariants as operand
+use Rattle.ir_model.specs.declared.op.BinOp.{BinOp}
+use Rattle.ir_model.specs.declared.op.BinOp.TheVariants as binary
+use Rattle.ir_model.specs.declared.op.CastOp.{CastOp}
+use Rattle.ir_model.specs.declared.op.CastOp.TheVariants as cast
+use Rattle.ir_model.specs.declared.op.TypedOperand.{TypedOperand}
+use Rattle.ir_model.specs.declared.op.PhiEntry.{PhiEntry}
+use Rattle.ir_model.specs.declared.op.Case.{Case}
+use Rattle.ir_model.specs.declared.op.Op.{Op}
+use Rattle.ir_model.specs.declared.op.Op.TheVariants.{Binary, Icmp, Cast, Select, Phi, Freeze, Alloca, Load, Store, Gep, Call, Jump, Branch, Switch, Ret, Unreachable}
+use Rattle.ir_text.specs.declared.token.TokenKind.TheVariants.{Numeral}
+use Rattle.ir_text.specs.Tokens.{Lexeme}
+use Rattle.ir_text.specs.Listed.{word, sign}
+use Rattle.ir_text.specs.Language.{Language, ◌·◌, nothing, optional, one, keyword, punctuation, comma}
+use Rattle.ir_text.specs.Written.{IsGlobal}
+use Rattle.ir_text.specs.Mentions.{Mention, Mentioning, ◌⊙◌, silent, uses_value, uses_block, uses_global, InOrder}
+use Rattle.ir_text.specs.Types.{IsNumeral, IsInt, IsStored, IsScalar, IsReturned, SpellsTypeOf}
+use Rattle.ir_text.specs.PassedOn.{passed_text, SpellsWords}
+
+-- ---- operands
+
+-- a numeral; `true` is 1 and `false` is 0
+abbrev pub SpellsNumber : ℤ → Language
+SpellsNumber n ts = one (IsNumeral n) ts
+    ⊎ ((n ≡ pos 1) × keyword (codes "true") ts)
+    ⊎ ((n ≡ pos 0) × keyword (codes "false") ts)
+
+abbrev pub SpellsOperand : Operand → Mentioning
+SpellsOperand (operand.Reg v) ms ts = (v.0 ≡ 0) × uses_value ms ts
+SpellsOperand (operand.Num n) ms ts = silent (SpellsNumber n) ms ts
+SpellsOperand operand.Null ms ts = silent (keyword (codes "null")) ms ts
+SpellsOperand (operand.Global g) ms ts = (g ≡ 0) × uses_global ms ts
+SpellsOperand operand.Undef ms ts = silent (keyword (codes "undef")) ms ts
+SpellsOperand operand.Poison ms ts = silent (keyword (codes "poison")) ms ts
+
+-- words and signs between operands
+abbrev pub the_word : List ℕ → Mentioning
+the_word text = silent (keyword text)
+
+abbrev pub the_sign : ℕ → Mentioning
+the_sign b = silent (punctuation b)
+
+abbrev pub the_comma : Mentioning
+the_comma = silent comma
+
+-- `type v`, and `ptr v`
+abbrev pub SpellsTyped : TypedOperand → Mentioning
+SpellsTyped typed = silent (SpellsTypeOf IsScalar typed.kind) ⊙ SpellsOperand typed.value
+
+abbrev pub SpellsPointer : Operand → Mentioning
+SpellsPointer pointer = the_word (codes "ptr") ⊙ SpellsOperand pointer
+
+-- `%block`, and `label %block`
+abbrev pub SpellsBlockName : ℕ → Mentioning
+SpellsBlockName id ms ts = (id ≡ 0) × uses_block ms ts
+
+abbrev pub SpellsTarget : ℕ → Mentioning
+SpellsTarget id = the_word (codes "label") ⊙ SpellsBlockName id
+
+-- ---- flags
+
+-- Some of these words, each at most once, in any order.
+abbrev pub AreFlags : List (List ℕ) → List (List ℕ) → Language
+AreFlags allowed found ts = (ts ≡ map word found) × IsDistinct bytes_eq found × All (Contains allowed) found
+
+-- The flag is set where its word is there.
+abbrev pub IsFlag : List (List ℕ) → List ℕ → Bool → Type 0
+IsFlag found text set = IsTrue set ↔ Contains found text
+
+-- `nuw` and `nsw`
+abbrev pub SpellsWraps : Bool → Bool → Language
+SpellsWraps nuw nsw ts = (found : List (List ℕ)) × AreFlags (codes "nuw" ∷ codes "nsw" ∷ []) found ts
+    × IsFlag found (codes "nuw") nuw × IsFlag found (codes "nsw") nsw
+
+-- a word where it is set
+abbrev pub SpellsFlag : List ℕ → Bool → Language
+SpellsFlag text true = keyword text
+SpellsFlag text false = nothing
+
+-- words that are read and dropped
+abbrev pub dropped_word : List ℕ → Language
+dropped_word text = optional (keyword text)
+
+-- ---- operations of two operands, comparisons, conversions
+
+abbrev pub binary_text : BinOp → List ℕ
+binary_text binary.Add = codes "add"
+binary_text binary.Sub = codes "sub"
+binary_text binary.Mul = codes "mul"
+binary_text binary.Shl = codes "shl"
+binary_text binary.Udiv = codes "udiv"
+binary_text binary.Sdiv = codes "sdiv"
+binary_text binary.Lshr = codes "lshr"
+binary_text binary.Ashr = codes "ashr"
+binary_text binary.Urem = codes "urem"
+binary_text binary.Srem = codes "srem"
+binary_text binary.And = codes "and"
+binary_text binary.Xor = codes "xor"
+binary_text binary.Or = codes "or"
+
+-- which flags an operation has
+pub data FlagKind : Type 0 where
+  Wraps : FlagKind
+  Exact : FlagKind
+  Disjoint : FlagKind
+  NoFlag : FlagKind
+
+abbrev pub flag_kind : BinOp → FlagKind
+flag_kind binary.Add = Wraps
+flag_kind binary.Sub = Wraps
+flag_kind binary.Mul = Wraps
+flag_kind binary.Shl = Wraps
+flag_kind binary.Udiv = Exact
+flag_kind binary.Sdiv = Exact
+flag_kind binary.Lshr = Exact
+flag_kind binary.Ashr = Exact
+flag_kind binary.Or = Disjoint
+flag_kind _ = NoFlag
+
+-- the flags of an operation of two operands
+pub record BinaryFlags : Type 0 where
+  pub nuw : Bool
+  pub nsw : Bool
+  pub exact : Bool
+  pub disjoint : Bool
+
+abbrev pub SpellsBinaryFlags : FlagKind → BinaryFlags → Language
+SpellsBinaryFlags Wraps flags ts = (flags.exact ≡ false) × (flags.disjoint ≡ false) × SpellsWraps flags.nuw flags.nsw ts
+SpellsBinaryFlags Exact flags ts = (flags.nuw ≡ false) × (flags.nsw ≡ false) × (flags.disjoint ≡ false)
+    × SpellsFlag (codes "exact") flags.exact ts
+SpellsBinaryFlags Disjoint flags ts = (flags.nuw ≡ false) × (flags.nsw ≡ false) × (flags.exact ≡ false)
+    × SpellsFlag (codes "disjoint") flags.disjoint ts
+SpellsBinaryFlags NoFlag flags ts = (flags.nuw ≡ false) × (flags.nsw ≡ false) × (flags.exact ≡ false)
+    × (flags.disjoint ≡ false) × nothing ts
+
+-- `type v, v`
+abbrev pub SpellsTwo : IrType → Operand → Operand → Mentioning
+SpellsTwo kind left right = silent (SpellsTypeOf IsScalar kind) ⊙ SpellsOperand left ⊙ the_comma ⊙ SpellsOperand right
+
+abbrev pub pred_text : Pred → List ℕ
+pred_text pred.Eq = codes "eq"
+pred_text pred.Ne = codes "ne"
+pred_text pred.Ugt = codes "ugt"
+pred_text pred.Uge = codes "uge"
+pred_text pred.Ult = codes "ult"
+pred_text pred.Ule = codes "ule"
+pred_text pred.Sgt = codes "sgt"
+pred_text pred.Sge = codes "sge"
+pred_text pred.Slt = codes "slt"
+pred_text pred.Sle = codes "sle"
+
+-- the word of a conversion, and its flags
+abbrev pub SpellsCast : CastOp → Bool → Language
+SpellsCast cast.Zext nneg ts = (keyword (codes "zext") · SpellsFlag (codes "nneg") nneg) ts
+SpellsCast cast.Sext nneg ts = (nneg ≡ false) × keyword (codes "sext") ts
+SpellsCast cast.Trunc nneg ts = (nneg ≡ false)
+    × (keyword (codes "trunc") · dropped_word (codes "nuw") · dropped_word (codes "nsw")) ts
+
+-- ---- the rest
+
+-- `[ v, %block ]`
+abbrev pub SpellsEntry : PhiEntry → Mentioning
+SpellsEntry entry = the_sign 91 ⊙ SpellsOperand entry.value ⊙ the_comma ⊙ SpellsBlockName entry.from.0 ⊙ the_sign 93
+
+-- `align n`, and the same behind a comma where it is there, whose text has no comma
+abbrev pub alignment : Language
+alignment = keyword (codes "align") · one (λ t. t.kind ≡ Numeral)
+
+abbrev pub SpellsAlign : List ℕ → Language
+SpellsAlign text ts = ((text ≡ []) × nothing ts)
+    ⊎ ((align : List Lexeme) × (ts ≡ sign 44 ∷ align) × alignment align × (text ≡ passed_text align))
+
+-- the flags of `getelementptr`, of which `nuw` and `nusw` are dropped
+abbrev pub SpellsGepFlags : Bool → Language
+SpellsGepFlags inbounds ts = (found : List (List ℕ))
+    × AreFlags (codes "inbounds" ∷ codes "nuw" ∷ codes "nusw" ∷ []) found ts × IsFlag found (codes "inbounds") inbounds
+
+-- an argument, and the text of the passed-on words between its type and its operand
+pub record Argument : Type 0 where
+  pub typed : TypedOperand
+  pub words : List ℕ
+
+abbrev pub SpellsArgument : Argument → Mentioning
+SpellsArgument arg = silent (SpellsTypeOf IsScalar arg.typed.kind · SpellsWords arg.words)
+    ⊙ SpellsOperand arg.typed.value
+
+-- things with commas between them: one or more, or any number
+abbrev pub WithCommas : {A : Type 0} → (A → List Mention → List Lexeme → Type 0) → List A → Mentioning
+WithCommas Spells [] ms ts = ⊥
+WithCommas Spells (x ∷ []) ms ts = Spells x ms ts
+WithCommas Spells (x ∷ y ∷ ys) ms ts = (Spells x ⊙ the_comma ⊙ WithCommas Spells (y ∷ ys)) ms ts
+
+abbrev pub Listing : {A : Type 0} → (A → List Mention → List Lexeme → Type 0) → List A → Mentioning
+Listing Spells [] = silent nothing
+Listing Spells (x ∷ xs) = WithCommas Spells (x ∷ xs)
+
+-- `tail` and `notail`, each where it is there, in this order
+abbrev pub SpellsTail : List ℕ → Language
+SpellsTail text ts = (text ≡ passed_text ts) × (dropped_word (codes "tail") · dropped_word (codes "notail")) ts
+
+-- `llvm.` and what begins so
+abbrev pub is_intrinsic : List ℕ → Bool
+is_intrinsic name = starts_with nat_eq name (codes "llvm.")
+
+-- The name is that of a minimum or a maximum of two operands of so many bits.
+abbrev pub IsMinimumName : ℕ → List ℕ → Type 0
+IsMinimumName width name = (kind : List ℕ) × Contains
+    (codes "umin" ∷ codes "umax" ∷ codes "smin" ∷ codes "smax" ∷ []) kind
+    × (name ≡ codes "llvm." ++ (kind ++ (codes ".i" ++ decimal width)))
+
+-- What may be called at a type: what is no intrinsic of LLVM, and the minima and maxima of that type.
+abbrev pub IsCallee : IrType → List ℕ → Type 0
+IsCallee ret name = (is_intrinsic name ≡ false) ⊎ ((width : ℕ) × (ret ≡ Int width) × IsMinimumName width name)
+
+-- `case`, with its type and its target
+abbrev pub SpellsCase : Case → Mentioning
+SpellsCase c = silent (SpellsTypeOf IsScalar c.kind · SpellsNumber c.number) ⊙ the_comma ⊙ SpellsTarget c.to.0
+
+-- The operation, and its passed-on words in the order of the text, one text for each place where some may stand.
+abbrev pub SpellsOp : Op → List (List ℕ) → Mentioning
+SpellsOp (Binary op nuw nsw exact disjoint kind left right) words ms ts = (words ≡ [])
+    × (silent (keyword (binary_text op)
+    · SpellsBinaryFlags (flag_kind op) (record { nuw = nuw; nsw = nsw; exact = exact; disjoint = disjoint }))
+    ⊙ SpellsTwo kind left right) ms ts
+SpellsOp (Icmp pred kind left right) words ms ts = (words ≡ [])
+    × (silent (keyword (codes "icmp") · dropped_word (codes "samesign") · keyword (pred_text pred))
+    ⊙ SpellsTwo kind left right) ms ts
+SpellsOp (Cast op nneg from value to) words ms ts = (words ≡ [])
+    × (silent (SpellsCast op nneg) ⊙ SpellsTyped (record { kind = from; value = value })
+    ⊙ silent (keyword (codes "to") · SpellsTypeOf IsScalar to)) ms ts
+SpellsOp (Select cond left right) words ms ts = (words ≡ [])
+    × (silent (keyword (codes "select") · keyword (codes "i1")) ⊙ SpellsOperand cond ⊙ the_comma
+    ⊙ SpellsTyped left ⊙ the_comma ⊙ SpellsTyped right) ms ts
+SpellsOp (Phi kind entries) words ms ts = (words ≡ [])
+    × (silent (keyword (codes "phi") · SpellsTypeOf IsScalar kind) ⊙ WithCommas SpellsEntry entries) ms ts
+SpellsOp (Freeze kind value) words ms ts = (words ≡ [])
+    × (the_word (codes "freeze") ⊙ SpellsTyped (record { kind = kind; value = value })) ms ts
+SpellsOp (Alloca kind) words ms ts = (align : List ℕ) × (words ≡ align ∷ [])
+    × silent (keyword (codes "alloca") · SpellsTypeOf IsStored kind · SpellsAlign align) ms ts
+SpellsOp (Load kind from) words ms ts = (align : List ℕ) × (words ≡ align ∷ [])
+    × (silent (keyword (codes "load") · SpellsTypeOf IsInt kind · comma) ⊙ SpellsPointer from
+    ⊙ silent (SpellsAlign align)) ms ts
+SpellsOp (Store kind value to) words ms ts = (align : List ℕ) × (words ≡ align ∷ [])
+    × (silent (keyword (codes "store") · SpellsTypeOf IsInt kind) ⊙ SpellsOperand value ⊙ the_comma
+    ⊙ SpellsPointer to ⊙ silent (SpellsAlign align)) ms ts
+SpellsOp (Gep inbounds kind base indices) words ms ts = (words ≡ [])
+    × (silent (keyword (codes "getelementptr") · SpellsGepFlags inbounds · SpellsTypeOf IsStored kind · comma)
+    ⊙ SpellsPointer base ⊙ InOrder (λ index. the_comma ⊙ SpellsTyped index) indices) ms ts
+SpellsOp (Call ret callee args) words ms ts = (tail before after : List ℕ) × (arguments : List Argument)
+    × (words ≡ tail ∷ before ∷ (map (λ (arg : Argument). arg.words) arguments ++ after ∷ []))
+    × (args ≡ map (λ (arg : Argument). arg.typed) arguments)
+    × IsCallee ret callee
+    × (silent (SpellsTail tail · keyword (codes "call") · SpellsWords before · SpellsTypeOf IsReturned ret
+    · one (IsGlobal callee) · punctuation 40)
+    ⊙ Listing SpellsArgument arguments ⊙ silent (punctuation 41 · SpellsWords after)) ms ts
+SpellsOp (Jump to) words ms ts = (words ≡ []) × (the_word (codes "br") ⊙ SpellsTarget to.0) ms ts
+SpellsOp (Branch cond there other) words ms ts = (words ≡ [])
+    × (silent (keyword (codes "br") · keyword (codes "i1")) ⊙ SpellsOperand cond ⊙ the_comma
+    ⊙ SpellsTarget there.0 ⊙ the_comma ⊙ SpellsTarget other.0) ms ts
+SpellsOp (Switch kind value other cases) words ms ts = (words ≡ [])
+    × (the_word (codes "switch") ⊙ SpellsTyped (record { kind = kind; value = value }) ⊙ the_comma
+    ⊙ SpellsTarget other.0
+    ⊙ the_sign 91 ⊙ InOrder SpellsCase cases ⊙ the_sign 93) ms ts
+SpellsOp (Ret None) words ms ts = (words ≡ []) × silent (keyword (codes "ret") · keyword (codes "void")) ms ts
+SpellsOp (Ret (Some typed)) words ms ts = (words ≡ []) × (the_word (codes "ret") ⊙ SpellsTyped typed) ms ts
+SpellsOp Unreachable words ms ts = (words ≡ []) × silent (keyword (codes "unreachable")) ms ts
