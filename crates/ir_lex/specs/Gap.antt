@@ -1,4 +1,4 @@
--- How long the blanks and comments at the front of a text are.
+-- How long the blanks and comments at the start of a text are.
 use Rattle.std.specs.Prelude.{ℕ, suc, Bool, true, false, if◌then◌else◌, ◌==◌, List, [], ◌∷◌}
 use Rattle.ir_text.specs.Bytes.{is_blank, is_no_line_feed}
 

@@ -7,4 +7,6 @@ use Rattle.ir_text.specs.Tokens.{IsGap}
 -- From a place on, the tokens stand one after another, each after blanks and comments alone.
 abbrev pub AreInOrder : List ℕ → ℕ → List Token → Type 0
 AreInOrder bytes at [] = Unit {0}
-AreInOrder bytes at (t ∷ ts) = (at ≤ t.from) × (t.from < t.to) × (t.to ≤ length bytes) × IsGap (slice_range bytes at t.from) × AreInOrder bytes t.to ts
+AreInOrder bytes at (t ∷ ts) =
+    (at ≤ t.from) × (t.from < t.to) × (t.to ≤ length bytes)
+    × IsGap (slice_range bytes at t.from) × AreInOrder bytes t.to ts

@@ -1,4 +1,4 @@
--- How long a part of a token at the front of a text is, where 0 says that there is none.
+-- How long a part of a token at the start of a text is, where 0 says that there is none.
 use Rattle.std.specs.Prelude.{ℕ, ◌+◌, max, if◌then◌else◌, nat_lt, nat_le, ◌==◌, List, [], ◌∷◌, length, take}
 use Rattle.std.specs.List.{prefix_len}
 use Rattle.std.specs.Str.{bytes_eq}
@@ -8,7 +8,9 @@ use Rattle.ir_text.specs.Names.{dots}
 -- three dots alone are no word, but two of them are
 unfoldable pub word_len : List ℕ → ℕ
 word_len [] = 0
-word_len (b ∷ bs) = if begins_word b then (if bytes_eq (take (prefix_len goes_on_word (b ∷ bs)) (b ∷ bs)) dots then 2 else prefix_len goes_on_word (b ∷ bs)) else 0
+word_len (b ∷ bs) =
+    let run = prefix_len goes_on_word (b ∷ bs) in
+    if begins_word b then (if bytes_eq (take run (b ∷ bs)) dots then 2 else run) else 0
 
 -- at most 39 digits
 unfoldable pub number_len : List ℕ → ℕ
@@ -17,7 +19,9 @@ number_len bs = if nat_le (prefix_len is_digit bs) 39 then prefix_len is_digit b
 -- up to the next quote
 unfoldable pub string_len : List ℕ → ℕ
 string_len [] = 0
-string_len (b ∷ bs) = if b == 34 then (if nat_lt (prefix_len is_no_quote bs) (length bs) then prefix_len is_no_quote bs + 2 else 0) else 0
+string_len (b ∷ bs) =
+    let inner = prefix_len is_no_quote bs in
+    if b == 34 then (if nat_lt inner (length bs) then inner + 2 else 0) else 0
 
 unfoldable pub name_len : List ℕ → ℕ
 name_len bs = max (max (word_len bs) (number_len bs)) (string_len bs)

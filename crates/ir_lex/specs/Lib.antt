@@ -1,6 +1,6 @@
 pub mod Tokenized
 pub mod InOrder
 pub mod Lengths
-pub mod Front
+pub mod FirstToken
 pub mod Gap
 pub mod Bad

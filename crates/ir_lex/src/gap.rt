@@ -5,7 +5,7 @@ ghost use Rattle.ir_lex.specs.Gap.{gap_len};
 
 use ir_text::is_blank;
 
-/// How many bytes at the front are blanks and comments. A comment that no line feed ends goes on to the end.
+/// How many bytes at the start are blanks and comments. A comment that no line feed ends goes on to the end.
 pub(crate) fn gap_len(bytes: &[u8]) -> usize
     ensures value { result ≡ gap_len false bytes.now }
     ensures within { result ≤ length bytes.now }

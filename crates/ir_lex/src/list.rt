@@ -28,15 +28,6 @@ impl<'a> Model for Tokens<'a> {
 }
 
 impl<'a> Tokens<'a> {
-    /// Tokens that were found in an input.
-    pub(crate) fn new(input: &'a [u8], tokens: Vec<Token>) -> Self
-        requires { AllByRecursion (IsWithin input.now) tokens.items }
-        ensures bytes { result.bytes ≡ input.now }
-        ensures tokens { result.tokens ≡ tokens.items }
-    {
-        Tokens { input, tokens }
-    }
-
     /// How many tokens there are.
     pub fn len(&self) -> usize
         ensures { result ≡ length self.now.tokens }
@@ -57,5 +48,14 @@ impl<'a> Tokens<'a> {
     {
         let token = self.tokens.get(at)?;
         Some(&self.input[token.from..token.to])
+    }
+
+    /// Tokens that were found in an input.
+    pub(crate) fn new(input: &'a [u8], tokens: Vec<Token>) -> Self
+        requires { AllByRecursion (IsWithin input.now) tokens.items }
+        ensures bytes { result.bytes ≡ input.now }
+        ensures tokens { result.tokens ≡ tokens.items }
+    {
+        Tokens { input, tokens }
     }
 }

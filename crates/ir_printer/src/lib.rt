@@ -5,8 +5,6 @@ mod function;
 mod instruction;
 mod module_text;
 mod operand;
-#[cfg(test)]
-mod tests;
 
 pub use module_text::print_module;
 pub use operand::{push_block_name, push_value};

@@ -75,6 +75,3 @@ fn ended(
         blocks,
     })
 }
-
-#[cfg(test)]
-mod tests;

@@ -7,7 +7,9 @@ use Rattle.ir_lex.proofs.gap.gap_len.Goals.{then-commented, else-commented+then-
 pub returns-then-not-is_blank-clause-value : goal.returns-then-not-is_blank-clause-value
 returns-then-not-is_blank-clause-value c =
     let s = c.args.bytes.now in
-    turn-stop s c.loop-at.at (gap_len false s) c.loop-at-test.true c.loop-at.commented c.if-commented.false c.if-byte-eq59.false (sym c.is_blank.ensures ∙ c.if-not-is_blank.true) c.loop-at.invariant
+    turn-stop s c.loop-at.at
+    (gap_len false s) c.loop-at-test.true c.loop-at.commented c.if-commented.false c.if-byte-eq59.false
+    (sym c.is_blank.ensures ∙ c.if-not-is_blank.true) c.loop-at.invariant
 
 pub loop-at-preserved : goal.loop-at-preserved
 loop-at-preserved c =
@@ -20,8 +22,10 @@ loop-at-preserved c =
     let inv = c.loop-at.invariant in
     elim c.if-commented.branch [
       | then-commented w ↦ turn-inside s i n lt was is w.if-commented.true (w.commented-is ∙ no_line_feed-is _) inv
-      | else-commented+then-byte-eq59 w ↦ turn-comment s i n lt was is w.if-commented.false w.commented-is w.if-byte-eq59.true inv
-      | else-commented+else-byte-eq59+else-not-is_blank w ↦ turn-blank s i n lt was is w.if-commented.false (w.commented-is ∙ w.if-commented.false) (sym w.is_blank.ensures ∙ w.if-not-is_blank.false) inv
+      | else-commented+then-byte-eq59 w ↦ turn-comment s i n lt was is w.if-commented.false w.commented-is
+          w.if-byte-eq59.true inv
+      | else-commented+else-byte-eq59+else-not-is_blank w ↦ turn-blank s i n lt was is w.if-commented.false
+          (w.commented-is ∙ w.if-commented.false) (sym w.is_blank.ensures ∙ w.if-not-is_blank.false) inv
     ]
 
 pub returns-clause-value : goal.returns-clause-value

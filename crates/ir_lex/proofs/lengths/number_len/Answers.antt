@@ -4,4 +4,5 @@ use Rattle.ir_text.specs.Bytes.{is_digit}
 use Rattle.ir_lex.proofs.lengths.number_len.Goals as goal
 
 pub returns-then-len-le-MOST_DIGITS-clause-within : goal.returns-then-len-le-MOST_DIGITS-clause-within
-returns-then-len-le-MOST_DIGITS-clause-within c = omega (arith, prefix_len-le-length is_digit c.args.bytes.now, c.digit_run_len-len.ensures)
+returns-then-len-le-MOST_DIGITS-clause-within c =
+    omega (arith, prefix_len-le-length is_digit c.args.bytes.now, c.digit_run_len-len.ensures)

@@ -1,9 +1,0 @@
-use Rattle.std.proofs.Common.{◌-◌, length}
-use Rattle.ir_lex.proofs.Steps.{AreFound}
-use Rattle.ir_lex.proofs.tokenize.tokens.Given as goal
-
-abbrev pub invariant-loop-found : goal.invariant-loop-found
-invariant-loop-found l = AreFound l.input l.found.items l.end
-
-abbrev pub decreases-loop-found : goal.decreases-loop-found
-decreases-loop-found l = length l.input - l.end
