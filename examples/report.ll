@@ -1,4 +1,5 @@
-; int spread(int n) { int i = 0, k = 100, s = 0; do { s += i; i += 4; k -= 3; } while (i < n); return s + k; }
+; int spread(int n) { int i = 0, k = 100, s = 0; do { s += i; i += 4; k -= 3; } while (i < n);
+;   return s + k; }
 ; by clang and opt -passes=mem2reg,simplifycfg,instcombine, without attributes and metadata
 define i32 @spread(i32 %n) {
 entry:

@@ -4,8 +4,6 @@
 pub mod laws;
 mod linear;
 mod row;
-#[cfg(test)]
-mod tests;
 mod turn;
 
 pub use linear::solve_linear;

@@ -74,6 +74,3 @@ impl Definitions {
         matches!(self.first.get(block as usize), Some(true))
     }
 }
-
-#[cfg(test)]
-mod tests;

@@ -77,6 +77,3 @@ fn recurrence(
     let step = increment_of(&add.op, p)?;
     definitions.are_phis_first(at).then_some((first, step))
 }
-
-#[cfg(test)]
-mod tests;

@@ -12,8 +12,6 @@ mod phase;
 mod phis;
 mod rows;
 mod start;
-#[cfg(test)]
-mod tests;
 mod value;
 
 pub use choice::Choice;

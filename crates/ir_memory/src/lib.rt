@@ -9,8 +9,6 @@ pub mod laws;
 mod loaded;
 mod offset;
 mod spelling;
-#[cfg(test)]
-mod tests;
 
 pub use access::{Access, is_access_width};
 pub use blocks::Blocks;

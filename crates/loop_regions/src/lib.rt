@@ -9,8 +9,6 @@ mod one_block;
 mod reverse;
 mod search;
 mod table;
-#[cfg(test)]
-mod tests;
 mod text_order;
 
 pub use laws::{one_block_is_loop, one_table, turn_of_one_block};

@@ -10,8 +10,6 @@ mod monomial;
 mod product;
 mod term;
 mod terms;
-#[cfg(test)]
-mod tests;
 
 pub use error::TermError;
 pub use factors::Factors;

@@ -8,8 +8,6 @@ mod plan;
 mod plans;
 mod residues;
 mod ring;
-#[cfg(test)]
-mod tests;
 
 pub use carry::carry_out;
 pub use plan::{Plan, PlanStep};

@@ -9,8 +9,6 @@ mod nest;
 mod pred;
 mod residue;
 mod steps;
-#[cfg(test)]
-mod tests;
 mod width;
 
 pub use ids::{BlockId, ExprId, FuncId, LoopId, ValueId};

@@ -11,8 +11,6 @@ mod sink;
 mod source;
 mod standard;
 mod steady;
-#[cfg(test)]
-mod tests;
 mod writing;
 
 pub use failed::{Failed, ReadError};

@@ -154,11 +154,7 @@ impl Sink for StdErr {
 }
 
 /// One read. An error, also of a call that a signal cut short, is a fault, and takes no byte.
-pub(crate) fn read_once<R: Read>(
-    reader: &mut R,
-    faults: &mut u64,
-    buf: &mut [u8],
-) -> Result<usize, Failed>
+fn read_once<R: Read>(reader: &mut R, faults: &mut u64, buf: &mut [u8]) -> Result<usize, Failed>
     ensures within { IfOk result (λ n. n ≤ length buf.new) }
     ensures bytes { ReadConsumes (R.remaining reader.old) (R.remaining reader.new) result buf.new }
     ensures ok { OnOk result (faults.new ≡ faults.old) }
@@ -173,11 +169,7 @@ pub(crate) fn read_once<R: Read>(
 
 /// One write. An error, also of a call that a signal cut short, is a fault, and so is a write that takes
 /// nothing of a piece that isn't empty.
-pub(crate) fn write_once<W: Write>(
-    writer: &mut W,
-    faults: &mut u64,
-    piece: &[u8],
-) -> Result<usize, Failed>
+fn write_once<W: Write>(writer: &mut W, faults: &mut u64, piece: &[u8]) -> Result<usize, Failed>
     ensures within { IfOk result (λ n. n ≤ length piece.now) }
     ensures some { IfOk result (λ n. 0 < length piece.now → 0 < n) }
     ensures bytes { WriteAppends (W.contents writer.old) (W.contents writer.new) result piece.now }

@@ -1,13 +1,15 @@
-//! Worked examples as tables of tests: whole inputs over `run`, and the arithmetic below it.
+//! Worked examples as tables of tests: whole inputs over `run`.
 #![tactic(auto)]
 
 #[cfg(test)]
-mod algebra;
-#[cfg(test)]
 mod call;
+#[cfg(test)]
+mod examples;
 #[cfg(test)]
 mod faults;
 #[cfg(test)]
 mod print;
 #[cfg(test)]
 mod report;
+#[cfg(test)]
+mod tokens;

@@ -5,7 +5,7 @@ use scev_tool::Status;
 use std::test::Fail;
 
 /// What is read, and what is reported of it.
-const REPORTED: [(&str, &str); 16] = [
+const REPORTED: [(&str, &str); 21] = [
     // A start and a step by their signed readings.
     (
         "define i32 @f() {
@@ -90,6 +90,46 @@ l: %i = phi i32 [ 0, %a ], [ %j, %l ] %i = phi i32 [ 0, %a ], [ %j, %l ] %j = ad
 %c = icmp ult i32 %j, %n br i1 %c, label %l, label %e
 e: ret i32 %i}",
         "; scev report 1\n; function @f\n; loop %l depth 1\n; phi %i = %i\n; phi %i = %i\n",
+    ),
+    // A register that an instruction defines again, behind the loop.
+    (
+        "define i32 @f(i32 %n){a: br label %l
+l: %i = phi i32 [ 0, %a ], [ %j, %l ] %j = add i32 %i, 1
+%c = icmp ult i32 %j, %n br i1 %c, label %l, label %e
+e: %j = add i32 %i, 2 ret i32 %i}",
+        "; scev report 1\n; function @f\n; loop %l depth 1\n; phi %i = %i\n",
+    ),
+    // A parameter that an instruction defines again.
+    (
+        "define i32 @f(i32 %n){a: br label %l
+l: %i = phi i32 [ 0, %a ], [ %j, %l ] %j = add i32 %i, 1
+%c = icmp ult i32 %j, 9 br i1 %c, label %l, label %e
+e: %n = add i32 %i, 2 ret i32 %i}",
+        "; scev report 1\n; function @f\n; loop %l depth 1\n; phi %i = %i\n",
+    ),
+    // A register that nothing defines.
+    (
+        "define i32 @f(i32 %n){a: br label %l
+l: %i = phi i32 [ 0, %a ], [ %j, %l ] %j = add i32 %i, 1
+%c = icmp ult i32 %j, %m br i1 %c, label %l, label %e
+e: ret i32 %i}",
+        "; scev report 1\n; function @f\n; loop %l depth 1\n; phi %i = %i\n",
+    ),
+    // A label that stands twice.
+    (
+        "define i32 @f(i32 %n){a: br label %l
+l: %i = phi i32 [ 0, %a ], [ %j, %l ] %j = add i32 %i, 1
+%c = icmp ult i32 %j, %n br i1 %c, label %l, label %e
+e: ret i32 %i
+e: ret i32 %j}",
+        "; scev report 1\n; function @f\n; loop %l depth 1\n; phi %i = %i\n",
+    ),
+    // A label that stands nowhere.
+    (
+        "define i32 @f(i32 %n){a: br label %l
+l: %i = phi i32 [ 0, %a ], [ %j, %l ] %j = add i32 %i, 1
+%c = icmp ult i32 %j, %n br i1 %c, label %l, label %e}",
+        "; scev report 1\n; function @f\n; loop %l depth 1\n; phi %i = %i\n",
     ),
     // A phi behind another instruction: no phi of the block is a recurrence.
     (

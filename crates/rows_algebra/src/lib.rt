@@ -1,0 +1,19 @@
+//! Worked examples of the arithmetic as tables of tests: residues and nests of loops, binomials, congruences,
+//! recurrences, and polynomials.
+#![tactic(auto)]
+
+// Numbers modulo 2^w.
+#[cfg(test)]
+mod binomials;
+#[cfg(test)]
+mod congruences;
+#[cfg(test)]
+mod residues;
+
+// What is made of them.
+#[cfg(test)]
+mod nests;
+#[cfg(test)]
+mod plans;
+#[cfg(test)]
+mod polynomials;

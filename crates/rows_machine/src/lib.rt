@@ -1,0 +1,19 @@
+//! Worked examples of the meaning as tables of tests: memory, runs of a machine, loops of one block, and which
+//! phi is which recurrence.
+#![tactic(auto)]
+
+// What rows build.
+#[cfg(test)]
+mod build;
+#[cfg(test)]
+mod thin;
+
+// The rows.
+#[cfg(test)]
+mod loops;
+#[cfg(test)]
+mod memory;
+#[cfg(test)]
+mod phis;
+#[cfg(test)]
+mod runs;
