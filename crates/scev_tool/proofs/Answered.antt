@@ -1,5 +1,5 @@
--- What a status of a mode tells, by cases.
-use Rattle.std.proofs.Common.{◌≡◌, ℕ, ◌<◌, ◌≤◌, List, length, Option, Some, None, ◌⊎◌, inl, inr, refl, arith}
+-- Which status comes, by what is seen of a call.
+use Rattle.std.proofs.Common.{◌≡◌, ℕ, ◌<◌, ◌≤◌, List, [], length, Option, Some, None, ◌⊎◌, inl, inr, refl, arith}
 use Rattle.std.proofs.Common.{IfSome}
 use Rattle.ir_model.specs.declared.item.Module.{Module}
 use Rattle.ir_text.specs.Thin.{Spells, SpellsNone}
@@ -8,62 +8,77 @@ use Rattle.scev_tool.specs.declared.status.Status.{Status}
 use Rattle.scev_tool.specs.declared.status.Status.TheVariants as status
 use Rattle.scev_tool.specs.declared.mode.Mode.{Mode}
 use Rattle.scev_tool.specs.declared.mode.Mode.TheVariants as mode
-use Rattle.scev_tool.specs.Mode.{IsTextOf}
-use Rattle.scev_tool.specs.Answer.{Seen, IsModeAnswer, IsRefusalOf}
+use Rattle.scev_tool.specs.Mode.{AskFor, IsTextOf}
+use Rattle.scev_tool.specs.Answer.{Seen, OfInput, IsAnswer, input_limit}
 
 -- Bytes with a text spell a module.
 spelled_by : (which : Mode) (bytes text : List ℕ) → IsTextOf which bytes text → SpellsNone bytes → ⊥
 spelled_by mode.Print bytes text h none = none h.m h.spelled
 spelled_by mode.Report bytes text h none = none h.m h.spelled
 
--- A refusal of the bytes is a row of the answers.
-pub answer-from_refusal : (which : Mode) (seen : Seen) (bytes : List ℕ) (s : Status) → IfSome seen.left (λ left. bytes ≡ left) → length bytes ≤ 8388608 → IsRefusalOf bytes s → IsModeAnswer which seen s
-answer-from_refusal which seen bytes status.Done all short h = absurd h
-answer-from_refusal which seen bytes status.Usage all short h = absurd h
-answer-from_refusal which seen bytes status.ReadFault all short h = absurd h
-answer-from_refusal which seen bytes status.TooLong all short h = absurd h
-answer-from_refusal which seen bytes (status.NotInGrammar at) all short h =
-    (h.1, none_of seen.left bytes all short h.0)
-  where
-    none_of : (left : Option (List ℕ)) (bytes : List ℕ) → IfSome left (λ l. bytes ≡ l) → length bytes ≤ 8388608 → SpellsNone bytes → IfSome left (λ l. (length l ≤ 8388608) × SpellsNone l)
-    none_of None bytes all short none = tt
-    none_of (Some l) bytes all short none = rw (← all) (short, none)
-answer-from_refusal which seen bytes (status.Unsupported word at) all short h = absurd h
-answer-from_refusal which seen bytes (status.Ill rule function place) all short h = absurd h
-answer-from_refusal which seen bytes status.NoFunction all short h = absurd h
-answer-from_refusal which seen bytes status.BadArgs all short h = absurd h
-answer-from_refusal which seen bytes status.WriteFault all short h = absurd h
-answer-from_refusal which seen bytes status.OutOfMemory all short h = tt
+-- What holds of the input holds of what the source had left.
+pub of_input : (left_old left_new : Option (List ℕ)) (bytes : List ℕ) (Holds : List ℕ → Type 0)
+    → IfSome left_old (λ left. (bytes ≡ left) × (left_new ≡ Some []))
+    → length bytes ≤ input_limit
+    → Holds bytes
+    → IfSome left_old (λ left. (length left ≤ input_limit) × (left_new ≡ Some []) × Holds left)
+of_input None left_new bytes Holds all short holds = tt
+of_input (Some left) left_new bytes Holds all short holds = rw (← all.0) (short, all.1, holds)
 
--- A module within the limit is printed, unless memory runs out or a count of faults rises.
-pub answer-complete : (which : Mode) (seen : Seen) (s : Status) (bytes : List ℕ) (m : Module) → IsModeAnswer which seen s → seen.left ≡ Some bytes → length bytes ≤ 8388608 → Spells bytes m → (Rose seen.reads_old seen.reads_new → ⊥) → (Rose seen.writes_old seen.writes_new → ⊥) → (s ≡ status.Done) ⊎ (s ≡ status.OutOfMemory)
-answer-complete which seen status.Done bytes m h left short spelled reads writes = inl refl
-answer-complete which seen status.Usage bytes m h left short spelled reads writes = absurd h
-answer-complete which seen status.ReadFault bytes m h left short spelled reads writes = absurd (reads h)
-answer-complete which seen status.TooLong bytes m h left short spelled reads writes =
-    let long : 8388608 < length bytes = rw left at h in absurd (omega arith)
-answer-complete which seen (status.NotInGrammar at) bytes m h left short spelled reads writes =
-    let none : (length bytes ≤ 8388608) × SpellsNone bytes = rw left at h.1 in absurd (none.1 m spelled)
-answer-complete which seen (status.Unsupported word at) bytes m h left short spelled reads writes = absurd h
-answer-complete which seen (status.Ill rule function place) bytes m h left short spelled reads writes = absurd h
-answer-complete which seen status.NoFunction bytes m h left short spelled reads writes = absurd h
-answer-complete which seen status.BadArgs bytes m h left short spelled reads writes = absurd h
-answer-complete which seen status.WriteFault bytes m h left short spelled reads writes = absurd (writes h.0)
-answer-complete which seen status.OutOfMemory bytes m h left short spelled reads writes = inr refl
+-- A call whose words ask for a mode, with what its source had left.
+pub record Call (seen : Seen) (bytes : List ℕ) : Type 0 where
+  pub which : Mode
+  pub asked : AskFor which seen.words
+  pub left : seen.left_old ≡ Some bytes
+  pub no_read_fault : Rose seen.reads_old seen.reads_new → ⊥
 
--- What spells no module is refused as such, on the same conditions.
-pub answer-refuses : (which : Mode) (seen : Seen) (s : Status) (bytes : List ℕ) → IsModeAnswer which seen s → seen.left ≡ Some bytes → length bytes ≤ 8388608 → SpellsNone bytes → (Rose seen.reads_old seen.reads_new → ⊥) → (s ≡ status.NotInGrammar 0) ⊎ (s ≡ status.OutOfMemory)
-answer-refuses which seen status.Done bytes h left short none reads =
-    let printed = rw left at h in absurd (spelled_by which bytes printed.1.0 printed.1.1 none)
-answer-refuses which seen status.Usage bytes h left short none reads = absurd h
-answer-refuses which seen status.ReadFault bytes h left short none reads = absurd (reads h)
-answer-refuses which seen status.TooLong bytes h left short none reads =
-    let long : 8388608 < length bytes = rw left at h in absurd (omega arith)
-answer-refuses which seen (status.NotInGrammar at) bytes h left short none reads = rw h.0 (inl refl)
-answer-refuses which seen (status.Unsupported word at) bytes h left short none reads = absurd h
-answer-refuses which seen (status.Ill rule function place) bytes h left short none reads = absurd h
-answer-refuses which seen status.NoFunction bytes h left short none reads = absurd h
-answer-refuses which seen status.BadArgs bytes h left short none reads = absurd h
-answer-refuses which seen status.WriteFault bytes h left short none reads =
-    let printed = rw left at h.1 in absurd (spelled_by which bytes printed.1.0 printed.1.1 none)
-answer-refuses which seen status.OutOfMemory bytes h left short none reads = inr refl
+module _ (seen : Seen) (bytes : List ℕ) (call : Call seen bytes) where
+  held : (Holds : List ℕ → Type 0) → OfInput seen Holds → (length bytes ≤ input_limit) × Holds bytes
+  held Holds input = let now = rw call.left at input in (now.0, now.2)
+
+  -- A module within the limit is answered, unless memory runs out or the output's count of faults rises.
+  pub complete : (s : Status) (m : Module) → IsAnswer seen s → Spells bytes m → length bytes ≤ input_limit
+      → (Rose seen.writes_old seen.writes_new → ⊥)
+      → (s ≡ status.Done) ⊎ (s ≡ status.OutOfMemory)
+  complete status.Done m h spelled short writes = inl refl
+  complete status.Usage m h spelled short writes = absurd (h call.which call.asked)
+  complete status.ReadFault m h spelled short writes = absurd (call.no_read_fault h.2)
+  complete status.TooLong m h spelled short writes =
+      let long : input_limit < length bytes = rw call.left at h.2 in absurd (omega arith)
+  complete (status.NotInGrammar at) m h spelled short writes = absurd ((held SpellsNone h.2.1).1 m spelled)
+  complete (status.Unsupported word at) m h spelled short writes = absurd h
+  complete (status.Ill rule function place) m h spelled short writes = absurd h
+  complete status.NoFunction m h spelled short writes = absurd h
+  complete status.BadArgs m h spelled short writes = absurd h
+  complete status.WriteFault m h spelled short writes = absurd (writes h.2.0)
+  complete status.OutOfMemory m h spelled short writes = inr refl
+
+  -- What spells no module is refused as such.
+  pub refuses : (s : Status) → IsAnswer seen s → SpellsNone bytes → length bytes ≤ input_limit
+      → (s ≡ status.NotInGrammar 0) ⊎ (s ≡ status.OutOfMemory)
+  refuses status.Done h none short = let text = (held _ h.2).1 in absurd (spelled_by h.0 bytes text.0 text.1 none)
+  refuses status.Usage h none short = absurd (h call.which call.asked)
+  refuses status.ReadFault h none short = absurd (call.no_read_fault h.2)
+  refuses status.TooLong h none short =
+      let long : input_limit < length bytes = rw call.left at h.2 in absurd (omega arith)
+  refuses (status.NotInGrammar at) h none short = rw h.2.0 (inl refl)
+  refuses (status.Unsupported word at) h none short = absurd h
+  refuses (status.Ill rule function place) h none short = absurd h
+  refuses status.NoFunction h none short = absurd h
+  refuses status.BadArgs h none short = absurd h
+  refuses status.WriteFault h none short = let text = (held _ h.2.1).1 in absurd (spelled_by h.0 bytes text.0 text.1 none)
+  refuses status.OutOfMemory h none short = inr refl
+
+  -- What is longer than the limit is refused as such.
+  pub limits : (s : Status) → IsAnswer seen s → input_limit < length bytes → (s ≡ status.TooLong) ⊎ (s ≡ status.OutOfMemory)
+  limits status.Done h long = let input = held _ h.2 in absurd (omega arith)
+  limits status.Usage h long = absurd (h call.which call.asked)
+  limits status.ReadFault h long = absurd (call.no_read_fault h.2)
+  limits status.TooLong h long = inl refl
+  limits (status.NotInGrammar at) h long = let input = held SpellsNone h.2.1 in absurd (omega arith)
+  limits (status.Unsupported word at) h long = absurd h
+  limits (status.Ill rule function place) h long = absurd h
+  limits status.NoFunction h long = absurd h
+  limits status.BadArgs h long = absurd h
+  limits status.WriteFault h long = let input = held _ h.2.1 in absurd (omega arith)
+  limits status.OutOfMemory h long = inr refl

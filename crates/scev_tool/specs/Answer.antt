@@ -1,38 +1,19 @@
--- What a call that reads and writes promises.
-use Rattle.std.specs.Prelude.{◌≡◌, ℕ, ◌<◌, ◌≤◌, List, length, Option, IfSome}
+-- What a call answers, status by status.
+use Rattle.std.specs.Prelude.{◌≡◌, ℕ, ◌<◌, ◌≤◌, List, [], length, Option, Some, IfSome}
 use Rattle.ir_text.specs.Thin.{SpellsNone}
 use Rattle.scev_outside.specs.Bytes.{Appended, AppendedFront}
 use Rattle.scev_outside.specs.Faults.{Rose}
 use Rattle.scev_tool.specs.declared.mode.Mode.{Mode}
 use Rattle.scev_tool.specs.declared.status.Status.{Status}
-use Rattle.scev_tool.specs.declared.status.Status.TheVariants.{Done, ReadFault, TooLong, NotInGrammar, WriteFault, OutOfMemory}
-use Rattle.scev_tool.specs.Mode.{IsTextOf}
+use Rattle.scev_tool.specs.declared.status.Status.TheVariants.{Done, Usage, ReadFault, TooLong, NotInGrammar, WriteFault, OutOfMemory}
+use Rattle.scev_tool.specs.Mode.{AskFor, IsTextOf}
 
--- The mode's text for the bytes was written whole, behind what was there.
-abbrev pub Writes : Mode → List ℕ → Option (List ℕ) → Option (List ℕ) → Type 0
-Writes mode bytes old new = (text : List ℕ) × IsTextOf mode bytes text × Appended old text new
-
--- A front of it was written.
-abbrev pub WritesFront : Mode → List ℕ → Option (List ℕ) → Option (List ℕ) → Type 0
-WritesFront mode bytes old new = (text : List ℕ) × IsTextOf mode bytes text × AppendedFront old text new
-
--- Why there is no text for some bytes.
-abbrev pub IsRefusalOf : List ℕ → Status → Type 0
-IsRefusalOf bytes (NotInGrammar at) = SpellsNone bytes × (at ≡ 0)
-IsRefusalOf bytes OutOfMemory = Unit {0}
-IsRefusalOf bytes _ = ⊥
-
--- Why an input wasn't read: what the source had left, and its count of faults before and after.
-abbrev pub IsInputRefusal : Option (List ℕ) → ℕ → ℕ → Status → Type 0
-IsInputRefusal left faults_old faults_new ReadFault = Rose faults_old faults_new
-IsInputRefusal left faults_old faults_new TooLong = IfSome left (λ bytes. 8388608 < length bytes)
-IsInputRefusal left faults_old faults_new OutOfMemory = Unit {0}
-IsInputRefusal left faults_old faults_new _ = ⊥
-
--- What is seen of a call: what the source had left, the content of the output before and after, and the counts of faults of
--- both before and after.
+-- What is seen of a call: its words, what the source had left and what the output had taken, before and after, and the counts
+-- of faults of both. None is the content of an object that doesn't tell it.
 pub record Seen : Type 0 where
-  pub left : Option (List ℕ)
+  pub words : List (List ℕ)
+  pub left_old : Option (List ℕ)
+  pub left_new : Option (List ℕ)
   pub taken_old : Option (List ℕ)
   pub taken_new : Option (List ℕ)
   pub reads_old : ℕ
@@ -40,12 +21,32 @@ pub record Seen : Type 0 where
   pub writes_old : ℕ
   pub writes_new : ℕ
 
--- One row for each status of a mode.
-abbrev pub IsModeAnswer : Mode → Seen → Status → Type 0
-IsModeAnswer mode seen Done = IfSome seen.left (λ bytes. (length bytes ≤ 8388608) × Writes mode bytes seen.taken_old seen.taken_new)
-IsModeAnswer mode seen ReadFault = Rose seen.reads_old seen.reads_new
-IsModeAnswer mode seen TooLong = IfSome seen.left (λ bytes. 8388608 < length bytes)
-IsModeAnswer mode seen (NotInGrammar at) = (at ≡ 0) × IfSome seen.left (λ bytes. (length bytes ≤ 8388608) × SpellsNone bytes)
-IsModeAnswer mode seen WriteFault = Rose seen.writes_old seen.writes_new × IfSome seen.left (λ bytes. (length bytes ≤ 8388608) × WritesFront mode bytes seen.taken_old seen.taken_new)
-IsModeAnswer mode seen OutOfMemory = Unit {0}
-IsModeAnswer mode seen _ = ⊥
+-- the most bytes of an input
+abbrev pub input_limit : ℕ
+input_limit = 8388608
+
+-- All of the input was read. It is within the limit, and this holds of its bytes.
+abbrev pub OfInput : Seen → (List ℕ → Type 0) → Type 0
+OfInput seen Holds = IfSome seen.left_old (λ bytes. (length bytes ≤ input_limit) × (seen.left_new ≡ Some []) × Holds bytes)
+
+-- The text that a mode writes for the bytes was appended; and a prefix of it.
+abbrev pub Writes : Seen → Mode → List ℕ → Type 0
+Writes seen mode bytes = (text : List ℕ) × IsTextOf mode bytes text × Appended seen.taken_old text seen.taken_new
+
+abbrev pub WritesPrefix : Seen → Mode → List ℕ → Type 0
+WritesPrefix seen mode bytes = (text : List ℕ) × IsTextOf mode bytes text × AppendedFront seen.taken_old text seen.taken_new
+
+-- The words ask for a mode, of which this holds.
+abbrev pub Asked : Seen → (Mode → Type 0) → Type 0
+Asked seen Holds = (mode : Mode) × AskFor mode seen.words × Holds mode
+
+-- When each status comes. Those that have no row here never do.
+abbrev pub IsAnswer : Seen → Status → Type 0
+IsAnswer seen Usage = (mode : Mode) → AskFor mode seen.words → ⊥
+IsAnswer seen ReadFault = Asked seen (λ mode. Rose seen.reads_old seen.reads_new)
+IsAnswer seen TooLong = Asked seen (λ mode. IfSome seen.left_old (λ bytes. input_limit < length bytes))
+IsAnswer seen (NotInGrammar at) = Asked seen (λ mode. (at ≡ 0) × OfInput seen SpellsNone)
+IsAnswer seen Done = Asked seen (λ mode. OfInput seen (Writes seen mode))
+IsAnswer seen WriteFault = Asked seen (λ mode. Rose seen.writes_old seen.writes_new × OfInput seen (WritesPrefix seen mode))
+IsAnswer seen OutOfMemory = Asked seen (λ mode. Unit {0})
+IsAnswer seen _ = ⊥

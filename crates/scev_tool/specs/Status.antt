@@ -17,14 +17,6 @@ code_of BadArgs = 3
 code_of WriteFault = 5
 code_of OutOfMemory = 7
 
--- The status is one that a call can answer so far.
-abbrev pub IsAnswered : Status → Type 0
-IsAnswered (Unsupported word at) = ⊥
-IsAnswered (Ill rule function place) = ⊥
-IsAnswered NoFunction = ⊥
-IsAnswered BadArgs = ⊥
-IsAnswered _ = Unit {0}
-
 -- Nothing is written to the output.
 abbrev pub LeavesOutput : Status → Type 0
 LeavesOutput Done = ⊥

@@ -1,15 +1,15 @@
 //! The one call.
 
-ghost use Rattle.std.specs.Prelude.{◌≡◌, ◌≤◌, ◌<◌, ◌⊎◌, ℕ, List, length, Some, IfSome};
+ghost use Rattle.std.specs.Prelude.{◌≡◌, ◌≤◌, ◌<◌, ◌⊎◌, ℕ, List, length, Some};
 ghost use Rattle.ir_model.specs.declared.item.Module.{Module};
 ghost use Rattle.ir_text.specs.Thin.{Spells, SpellsNone};
 ghost use Rattle.scev_outside.specs.Bytes.{Gave};
 ghost use Rattle.scev_outside.specs.Faults.{Rose};
 ghost use Rattle.scev_tool.specs.Message.{message, AddsUnlessFaulty};
-ghost use Rattle.scev_tool.specs.Answer.{Writes, WritesFront};
+ghost use Rattle.scev_tool.specs.Answer.{IsAnswer, input_limit};
 ghost use Rattle.scev_tool.specs.Mode.{AskFor};
 ghost use Rattle.scev_tool.specs.declared.mode.Mode.{Mode};
-ghost use Rattle.scev_tool.specs.Status.{IsAnswered, LeavesOutput};
+ghost use Rattle.scev_tool.specs.Status.{LeavesOutput};
 
 use crate::answer::answer;
 use crate::message::write_message;
@@ -34,51 +34,49 @@ pub fn run<S: Source, K: Sink, E: Sink>(
     out: &mut K,
     err: &mut E,
 ) -> Status
-    // The words.
-    ensures usage { result ≡ Status.Usage → (mode : Mode) → AskFor mode words.now → ⊥ }
-    ensures mode { (result ≡ Status.Usage → ⊥) → (mode : Mode) × AskFor mode words.now }
+    // When each status comes, and what holds then of the input and the output.
+    ensures answer { IsAnswer (record {
+      words = words.now;
+      left_old = S.left source.old;
+      left_new = S.left source.new;
+      taken_old = K.taken out.old;
+      taken_new = K.taken out.new;
+      reads_old = S.faults source.old;
+      reads_new = S.faults source.new;
+      writes_old = K.faults out.old;
+      writes_new = K.faults out.new;
+    }) result }
+
+    // What stays as it was, and where the source stands else.
     ensures nothing_read { result ≡ Status.Usage → source.new ≡ source.old }
-
-    // The text.
-    ensures done { (mode : Mode) → AskFor mode words.now → result ≡ Status.Done →
-        IfSome (S.left source.old) (λ bytes. Writes mode bytes (K.taken out.old) (K.taken out.new)) }
     ensures output { LeavesOutput result → out.new ≡ out.old }
-
-    // When each refusal comes.
-    ensures read_fault { result ≡ Status.ReadFault → Rose (S.faults source.old) (S.faults source.new) }
-    ensures too_long { result ≡ Status.TooLong → IfSome (S.left source.old) (λ bytes. 8388608 < length bytes) }
-    ensures not_in_grammar { (at : ℕ) → result ≡ Status.NotInGrammar at →
-        (at ≡ 0) × IfSome (S.left source.old) SpellsNone }
-    ensures write_fault { result ≡ Status.WriteFault → Rose (K.faults out.old) (K.faults out.new) }
-    ensures front { (mode : Mode) → AskFor mode words.now → result ≡ Status.WriteFault →
-        IfSome (S.left source.old) (λ bytes. WritesFront mode bytes (K.taken out.old) (K.taken out.new)) }
-    ensures answered { IsAnswered result }
+    ensures stands { (read : List ℕ) × Gave (S.left source.old) read (S.left source.new) }
 
     // A module within the limit is answered, unless memory runs out or an object's count of faults rises.
     ensures complete { (mode : Mode) (bytes : List ℕ) (m : Module) → AskFor mode words.now → S.left source.old ≡ Some bytes →
-        length bytes ≤ 8388608 → Spells bytes m →
+        length bytes ≤ input_limit → Spells bytes m →
         (Rose (S.faults source.old) (S.faults source.new) → ⊥) →
         (Rose (K.faults out.old) (K.faults out.new) → ⊥) →
         (result ≡ Status.Done) ⊎ (result ≡ Status.OutOfMemory) }
 
-    // What spells none within the limit is refused as such, on the same conditions.
+    // What spells none within the limit is refused as such, on the same conditions; and what is longer.
     ensures refuses { (mode : Mode) (bytes : List ℕ) → AskFor mode words.now → S.left source.old ≡ Some bytes →
-        length bytes ≤ 8388608 → SpellsNone bytes →
+        length bytes ≤ input_limit → SpellsNone bytes →
         (Rose (S.faults source.old) (S.faults source.new) → ⊥) →
         (result ≡ Status.NotInGrammar 0) ⊎ (result ≡ Status.OutOfMemory) }
-
-    // More than the limit is refused as such.
     ensures limits { (mode : Mode) (bytes : List ℕ) → AskFor mode words.now → S.left source.old ≡ Some bytes →
-        8388608 < length bytes → (Rose (S.faults source.old) (S.faults source.new) → ⊥) →
+        input_limit < length bytes → (Rose (S.faults source.old) (S.faults source.new) → ⊥) →
         (result ≡ Status.TooLong) ⊎ (result ≡ Status.OutOfMemory) }
 
-    // What is said about it, and where the source stands.
+    // The status's line on `err`, and the counts of faults, which never fall.
     ensures line { AddsUnlessFaulty (E.taken err.old) (message result) (E.taken err.new)
         (E.faults err.old) (E.faults err.new) }
-    ensures stands { (read : List ℕ) × Gave (S.left source.old) read (S.left source.new) }
+    ensures reads { S.faults source.old ≤ S.faults source.new }
+    ensures writes { K.faults out.old ≤ K.faults out.new }
+    ensures messages { E.faults err.old ≤ E.faults err.new }
 {
     let status = match mode_of(words) {
-        Some(mode) => answer(alloc, mode, source, out),
+        Some(mode) => answer(alloc, words, mode, source, out),
         None => Status::Usage,
     };
     let _ = write_message(err, status);

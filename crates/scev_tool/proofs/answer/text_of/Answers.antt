@@ -1,17 +1,15 @@
-use Rattle.std.proofs.Common.{◌∙◌, sym}
-use Rattle.scev_tool.proofs.Texts.{is_print_of, is_report_of}
-use Rattle.scev_tool.proofs.answer.text_of.Goals.{in-Print, in-Report}
+use Rattle.std.proofs.Common.{Result, Ok, Err}
+use Rattle.std.specs.Prelude.{IfOk}
+use Rattle.scev_tool.proofs.Texts.{is_report_of}
 use Rattle.scev_tool.proofs.answer.text_of.Goals as goal
 
-pub returns-in-Ok-text-clause-text : goal.returns-in-Ok-text-clause-text
-returns-in-Ok-text-clause-text c =
-    elim c.match-mode.branch [
-      | in-Print w ↦
-          let done = sym w.text-is ∙ c.in-Ok-text.is in
-          rw w.in-Print.is
-          (is_print_of c.args.bytes.now c.in-Ok.module c.in-Ok-text.text.items c.in-Ok.ensures.spells (rw done at w.print_module-text.ensures.text) (rw done at w.print_module-text.ensures.spells))
-      | in-Report w ↦
-          let done = sym w.text-is ∙ c.in-Ok-text.is in
-          rw w.in-Report.is
-          (is_report_of c.args.bytes.now c.in-Ok.module c.in-Ok-text.text.items c.in-Ok.ensures.spells (rw done at w.report_module-text.ensures))
-    ]
+weaker : {A E : Type 0} (r : Result A E) (P Q : A → Type 0) → ((x : A) → P x → Q x) → IfOk r P → IfOk r Q
+weaker (Ok x) P Q then h = then x h
+weaker (Err e) P Q then h = tt
+
+pub returns-in-Report : goal.returns-in-Report
+returns-in-Report c =
+    rw c.in-Report.is
+    (weaker c.report_module.result _ _
+    (λ text is bytes spelled. is_report_of bytes c.args.module.now text.items spelled is)
+    c.report_module.ensures)

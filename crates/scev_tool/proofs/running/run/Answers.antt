@@ -1,25 +1,40 @@
-use Rattle.scev_tool.proofs.Answered.{answer-complete, answer-refuses}
+-- The status of a call is that of its mode, and what is seen of it is seen there.
+use Rattle.scev_tool.proofs.Answered.{complete, refuses, limits}
 use Rattle.scev_tool.proofs.running.run.Goals.{in-Some, in-None}
 use Rattle.scev_tool.proofs.running.run.Goals as goal
 
 pub returns-clause-complete : goal.returns-clause-complete
-returns-clause-complete g c = λ mode bytes m words left short spelled reads writes.
+returns-clause-complete g c = λ which bytes m asked left short spelled reads writes.
     elim c.match-mode_of.branch [
       | in-Some w ↦
           rw w.status-is
-          (answer-complete _ _ _ bytes m w.answer-status.ensures.answer left short spelled (rw w.source-is at reads) (rw w.out-is at writes))
+          (complete _ bytes (record { which = which; asked = asked; left = left; no_read_fault = rw w.source-is at reads }) _ m
+          w.answer-status.ensures.answer spelled short (rw w.out-is at writes))
       | in-None w ↦
           let no = rw w.in-None.is at c.mode_of.ensures.none in
-          let never : ⊥ = no mode words in absurd never
+          let never : ⊥ = no which asked in absurd never
     ]
 
 pub returns-clause-refuses : goal.returns-clause-refuses
-returns-clause-refuses g c = λ mode bytes words left short none reads.
+returns-clause-refuses g c = λ which bytes asked left short none reads.
     elim c.match-mode_of.branch [
       | in-Some w ↦
           rw w.status-is
-          (answer-refuses _ _ _ bytes w.answer-status.ensures.answer left short none (rw w.source-is at reads))
+          (refuses _ bytes (record { which = which; asked = asked; left = left; no_read_fault = rw w.source-is at reads }) _
+          w.answer-status.ensures.answer none short)
       | in-None w ↦
           let no = rw w.in-None.is at c.mode_of.ensures.none in
-          let never : ⊥ = no mode words in absurd never
+          let never : ⊥ = no which asked in absurd never
+    ]
+
+pub returns-clause-limits : goal.returns-clause-limits
+returns-clause-limits g c = λ which bytes asked left long reads.
+    elim c.match-mode_of.branch [
+      | in-Some w ↦
+          rw w.status-is
+          (limits _ bytes (record { which = which; asked = asked; left = left; no_read_fault = rw w.source-is at reads }) _
+          w.answer-status.ensures.answer long)
+      | in-None w ↦
+          let no = rw w.in-None.is at c.mode_of.ensures.none in
+          let never : ⊥ = no which asked in absurd never
     ]
