@@ -1,0 +1,10 @@
+pub mod Readers
+pub mod Combined
+pub mod SingleTokens
+pub mod Places
+pub mod Loops
+pub mod TypeReaders
+pub mod Closing
+pub mod Told
+pub mod ClosedReader
+pub mod MetadataReaders
