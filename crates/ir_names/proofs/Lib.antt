@@ -1,0 +1,11 @@
+pub mod Growing
+pub mod FirstPlaces
+pub mod FunctionIsNumbered
+pub mod ItemsAreNumbered
+pub mod KeyNames
+pub mod KindLemmas
+pub mod Passing
+pub mod OneMention
+pub mod Plain
+pub mod TypeTable
+pub mod Walking

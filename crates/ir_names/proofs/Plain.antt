@@ -1,0 +1,49 @@
+-- Texts with no escape in them.
+use Rattle.std.proofs.Common.{◌≡◌, ℕ, zero, suc, ◌+◌, ◌-◌, Bool, true, false, cond, ◌||◌, ◌&&◌, ◌==◌, List, [], ◌∷◌, ◌++◌, length, take, drop, map, Option, Some, None, slice_get, refl, sym, ap, ◌∙◌}
+use Rattle.std.specs.List.{list_any}
+use Rattle.std.specs.Option.{option_map}
+use Rattle.std.proofs.lemmas.Option.{none-some, same_Some}
+use Rattle.ir_text.specs.Written.{unescaped}
+use Rattle.ir_text.specs.Said.{inner_text}
+use Rattle.ir_names.specs.Meant.{has_escape, meant}
+
+neither : (a b : Bool) → (a || b) ≡ false → (a ≡ false) × (b ≡ false)
+neither true b e = absurd cc
+neither false b e = (refl, e)
+
+plain : (bytes : List ℕ) → has_escape bytes ≡ false → unescaped bytes ≡ bytes
+unfolding unescaped
+plain [] e = refl
+plain (b ∷ []) e = refl
+plain (b ∷ c ∷ []) e = let n = neither (b == 92) _ e in rw n.0 refl
+plain (b ∷ c ∷ d ∷ bs) e =
+    let n = neither (b == 92) _ e in
+    let rest : unescaped (c ∷ d ∷ bs) ≡ c ∷ d ∷ bs = plain (c ∷ d ∷ bs) n.1 in
+    rw n.0 (ap (λ ys. b ∷ ys) rest)
+
+plain_drop : (n : ℕ) (bytes : List ℕ) → has_escape bytes ≡ false → has_escape (drop n bytes) ≡ false
+plain_drop zero bytes e = e
+plain_drop (suc n) [] e = e
+plain_drop (suc n) (b ∷ bytes) e = plain_drop n bytes (neither (b == 92) _ e).1
+
+plain_take : (n : ℕ) (bytes : List ℕ) → has_escape bytes ≡ false → has_escape (take n bytes) ≡ false
+plain_take zero bytes e = refl
+plain_take (suc n) [] e = refl
+plain_take (suc n) (b ∷ bytes) e = let p = neither (b == 92) _ e in rw (p.0, plain_take n bytes p.1) refl
+
+-- What stands between the quotes means itself.
+pub plain_inner : (written : List ℕ) → None ≡ meant written → unescaped (inner_text written) ≡ inner_text written
+plain_inner written e = go (has_escape written) refl e
+  where
+    go : (b : Bool) → has_escape written ≡ b → None ≡ cond b (Some (unescaped (inner_text written))) None
+        → unescaped (inner_text written) ≡ inner_text written
+    go true has f = absurd (none-some _ f)
+    go false has f = plain (inner_text written)
+        (plain_take (length written - 2) (drop 1 written) (plain_drop 1 written has))
+
+-- One more thing of a list that a map is made of.
+pub map_more : {A B : Type 0} (f : A → B) (xs : List A) (at : ℕ) (y : B) → option_map f (slice_get xs at) ≡ Some y
+    → map f (take at xs) ++ y ∷ [] ≡ map f (take (suc at) xs)
+map_more f [] at y e = absurd (none-some _ e)
+map_more f (x ∷ xs) zero y e = ap (λ z. z ∷ []) (sym (same_Some _ _ e))
+map_more f (x ∷ xs) (suc at) y e = ap (λ zs. f x ∷ zs) (map_more f xs at y e)

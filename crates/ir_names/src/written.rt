@@ -1,0 +1,183 @@
+//! Names as they are written.
+
+ghost use Rattle.std.specs.Prelude.{◌≡◌, ◌∷◌, ◌-◌, ◌<◌, [], IsTrue, IfOk, MatchOption, Some, None, if◌then◌else◌, length, take, drop};
+ghost use Rattle.std.specs.Option.{option_map, option_copied};
+ghost use Rattle.std.specs.List.{list_all};
+ghost use Rattle.std.specs.Char.{digit_value};
+ghost use Rattle.ir_text.specs.Bytes.{is_no_quote, is_digit};
+ghost use Rattle.ir_text.specs.Names.{is_number};
+ghost use Rattle.ir_text.specs.Written.{unescaped};
+ghost use Rattle.ir_text.specs.Said.{said, said_global_text, is_string_text, inner_text};
+ghost use Rattle.ir_names.specs.Keys.{name_of_key};
+ghost use Rattle.ir_names.specs.Meant.{meant, has_escape};
+
+use crate::key::Key;
+use ir_lex::unsigned_value;
+use ir_model::Text;
+use ir_text::{is_digit, is_word};
+use sqlite_items::Items;
+use std::alloc::{AllocError, Global};
+
+/// The name of a value or a block that is written; `known` is what its escapes mean.
+///
+/// A number from 2^128 on, which no token has, counts as out of memory.
+#[tactic(auto, unfolding(ir_text::specs::Said::said))]
+pub fn said<'a>(written: &'a [u8], known: Option<&'a [u8]>) -> Result<Option<Key<'a>>, AllocError>
+    requires { option_copied known ≡ meant written.now }
+    ensures { IfOk result (λ name. option_map name_of_key name ≡ said written.now) }
+{
+    if is_word(written) {
+        return Ok(Some(Key::Text(written)));
+    }
+    if is_number(written) {
+        let Some(number) = unsigned_value(written) else {
+            return Err(AllocError);
+        };
+        return Ok(Some(Key::Number(number)));
+    }
+    match string_bytes(written, known) {
+        Some(bytes) => Ok(Some(Key::Text(bytes))),
+        None => Ok(None),
+    }
+}
+
+/// The name of a global that is written.
+#[tactic(auto, unfolding(ir_text::specs::Said::said_global_text))]
+pub fn said_global<'a>(written: &'a [u8], known: Option<&'a [u8]>) -> Option<&'a [u8]>
+    requires { option_copied known ≡ meant written.now }
+    ensures { option_copied result ≡ said_global_text written.now }
+{
+    if is_word(written) {
+        return Some(written);
+    }
+    if is_number(written) {
+        return Some(written);
+    }
+    string_bytes(written, known)
+}
+
+/// What the escapes in a string mean, where it has some.
+pub fn meant(alloc: Global, written: &[u8]) -> Result<Option<Text>, AllocError>
+    ensures { IfOk result (λ bytes. bytes ≡ meant written.now) }
+{
+    if has_escape(written) {
+        let bytes = unescape(alloc, inner_text(written))?;
+        Ok(Some(bytes))
+    } else {
+        Ok(None)
+    }
+}
+
+#[tactic(auto, using(crate::proofs::Plain::plain_inner))]
+fn string_bytes<'a>(written: &'a [u8], known: Option<&'a [u8]>) -> Option<&'a [u8]>
+    requires { option_copied known ≡ meant written.now }
+    ensures { option_copied result ≡ (if is_string_text written.now then Some (unescaped (inner_text written.now)) else None) }
+{
+    if !is_string_text(written) {
+        return None;
+    }
+    match known {
+        Some(bytes) => Some(bytes),
+        None => Some(inner_text(written)),
+    }
+}
+
+#[tactic(auto, unfolding(ir_text::specs::Names::is_number))]
+fn is_number(text: &[u8]) -> bool
+    ensures value { result ≡ is_number text.now }
+    ensures digits { IsTrue result → IsTrue (list_all is_digit text.now) }
+{
+    0 < text.len() && text.len() <= 39 && are_digits(text)
+}
+
+fn are_digits(text: &[u8]) -> bool
+    ensures { result ≡ list_all is_digit text.now }
+{
+    text.iter().all(|byte| is_digit(*byte))
+}
+
+#[tactic(auto, unfolding(ir_text::specs::Said::is_string_text))]
+fn is_string_text(text: &[u8]) -> bool
+    ensures { result ≡ is_string_text text.now }
+{
+    text.len() >= 2
+        && text.starts_with(b"\"".as_slice())
+        && text.ends_with(b"\"".as_slice())
+        && has_no_quote(inner_text(text))
+}
+
+#[tactic(auto, unfolding(ir_text::specs::Bytes::is_no_quote))]
+fn has_no_quote(bytes: &[u8]) -> bool
+    ensures { result ≡ list_all is_no_quote bytes.now }
+{
+    bytes.iter().all(|byte| *byte != b'"')
+}
+
+fn has_escape(text: &[u8]) -> bool
+    ensures { result ≡ has_escape text.now }
+{
+    text.iter().any(|byte| *byte == b'\\')
+}
+
+// The text without its first byte and its last.
+fn inner_text(text: &[u8]) -> &[u8]
+    ensures { result.now ≡ inner_text text.now }
+{
+    if text.len() < 2 {
+        return b"";
+    }
+    &text[1..text.len() - 1]
+}
+
+fn unescape(alloc: Global, text: &[u8]) -> Result<Text, AllocError>
+    ensures { IfOk result (λ bytes. bytes ≡ unescaped text.now) }
+{
+    let mut bytes = Items::new(alloc);
+    let mut rest = text;
+    while let Some((byte, behind)) = first_meant(rest) {
+        bytes.push(byte)?;
+        rest = behind;
+    }
+    Ok(bytes)
+}
+
+// The first byte that is meant, and the text behind what means it.
+#[tactic(auto, unfolding(ir_text::specs::Written::unescaped))]
+fn first_meant(text: &[u8]) -> Option<(u8, &[u8])>
+    ensures { MatchOption result (text.now ≡ []) (λ first. (unescaped text.now ≡ first.0 ∷ unescaped first.1.now) × (length first.1.now < length text.now)) }
+{
+    match text {
+        [] => None,
+        [first] => Some((*first, b"".as_slice())),
+        [first, second] => {
+            if *first == b'\\' && *second == b'\\' {
+                Some((b'\\', b"".as_slice()))
+            } else {
+                Some((*first, &text[1..]))
+            }
+        }
+        [first, second, third, behind @ ..] => {
+            if *first == b'\\' && *second == b'\\' {
+                Some((b'\\', &text[2..]))
+            } else if *first == b'\\' && second.is_ascii_hexdigit() && third.is_ascii_hexdigit() {
+                Some((16 * hex_value(*second) + hex_value(*third), behind))
+            } else {
+                Some((*first, &text[1..]))
+            }
+        }
+    }
+}
+
+fn hex_value(digit: u8) -> u8
+    requires { digit_value digit < 16 }
+    ensures value { result ≡ digit_value digit }
+    ensures small { result < 16 }
+{
+    if digit < b':' {
+        digit - b'0'
+    } else if digit < b'[' {
+        digit - 55
+    } else {
+        digit - 87
+    }
+}
