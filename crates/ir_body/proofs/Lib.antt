@@ -1,0 +1,16 @@
+pub mod Told
+pub mod WordFirst
+pub mod SaidAt
+pub mod Choices
+pub mod Tellers
+pub mod SaidNames
+pub mod WordReaders
+pub mod OpcodeReaders
+pub mod OperandTellers
+pub mod WrapWords
+pub mod FlagReaders
+pub mod DroppedWords
+pub mod PlainTellers
+pub mod ValueTellers
+pub mod OpLanguages
+pub mod OperandAt

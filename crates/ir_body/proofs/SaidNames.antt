@@ -1,0 +1,224 @@
+-- What a token says as a name is the name that it spells.
+use Rattle.std.proofs.Common.{◌≡◌, ℕ, suc, ◌-◌, ◌≤◌, Bool, true, false, ◌&&◌, if◌then◌else◌, List, [], ◌∷◌, ◌++◌, length, take, drop, Option, Some, None, ◌⊎◌, inl, inr, refl, sym, ap, subst, ◌∙◌, arith}
+use Rattle.std.specs.Prelude.{nat_le, nat_lt}
+use Rattle.std.specs.List.{list_all}
+use Rattle.std.specs.Str.{bytes_eq}
+use Rattle.std.specs.Str.Parse.{digits_value}
+use Rattle.std.proofs.Math.Seq.{take-append_seam, drop-append_seam}
+use Rattle.std.proofs.lemmas.Bool.{and_parts, leb-true, le-leb}
+use Rattle.std.proofs.lemmas.List.{take-append-drop, length-append}
+use Rattle.std.proofs.lemmas.Slice.Eq.{bytes_eq-Decides}
+use Rattle.ir_text.specs.declared.token.TokenKind.{TokenKind}
+use Rattle.ir_text.specs.declared.token.TokenKind.TheVariants.{Local, Global}
+use Rattle.ir_text.specs.Bytes.{is_digit, is_letter, begins_word, is_no_quote}
+use Rattle.ir_text.specs.Names.{is_word, is_number}
+use Rattle.ir_text.specs.Tokens.{Lexeme}
+use Rattle.ir_text.specs.Written.{Name, Text, Number, unescaped, IsQuoted, Says, SaysGlobal, IsLocal, IsGlobal}
+use Rattle.ir_text.specs.Said.{inner_text, is_string_text, said, said_global_text, is_local_kind, is_global_kind, said_local, said_global}
+use Rattle.ir_lex.proofs.BytesApart.{digit-no_word}
+
+-- ---- strings
+
+framed : (text : List ℕ) → 2 ≤ length text → 34 ∷ [] ≡ take 1 text → 34 ∷ [] ≡ drop (length text - 1) text
+    → text ≡ 34 ∷ (inner_text text ++ 34 ∷ [])
+framed [] long first last = absurd (omega arith)
+framed (b ∷ r) long first last =
+    let n : ℕ = length (b ∷ r) - 2 in
+    let opening : b ≡ 34 = cc in
+    let count : length (b ∷ r) - 1 ≡ suc n = omega (arith, long) in
+    let closing : drop n r ≡ 34 ∷ [] = sym (last ∙ ap (λ (k : ℕ). drop k (b ∷ r)) count) in
+    ap (λ (b : ℕ). b ∷ r) opening
+    ∙ ap (λ (r : List ℕ). 34 ∷ r) (sym (take-append-drop n r) ∙ ap (λ (end : List ℕ). take n r ++ end) closing)
+
+is_quoted_by : (text : List ℕ) → is_string_text text ≡ true → IsQuoted text (unescaped (inner_text text))
+unfolding is_string_text
+is_quoted_by text e =
+    let opens : Bool = bytes_eq (34 ∷ []) (take 1 text) in
+    let closes : Bool = bytes_eq (34 ∷ []) (drop (length text - 1) text) in
+    let inside : Bool = list_all is_no_quote (inner_text text) in
+    let a = and_parts ((nat_le 2 (length text) && opens) && closes) inside e in
+    let b = and_parts (nat_le 2 (length text) && opens) closes a.0 in
+    let c = and_parts (nat_le 2 (length text)) opens b.0 in (
+      inner_text text,
+      framed text (leb-true 2 (length text) c.0) ((bytes_eq-Decides (34 ∷ []) (take 1 text)).0 c.1)
+          ((bytes_eq-Decides (34 ∷ []) (drop (length text - 1) text)).0 b.1),
+      a.1,
+      refl,
+    )
+
+all_four : (a b c d : Bool) → a ≡ true → b ≡ true → c ≡ true → d ≡ true → (((a && b) && c) && d) ≡ true
+all_four a b c d e f g h = rw (e, f, g, h) refl
+
+-- a string between its quotes
+framed_text : List ℕ → List ℕ
+framed_text inner = 34 ∷ (inner ++ 34 ∷ [])
+
+inner_of : (inner : List ℕ) → inner_text (framed_text inner) ≡ inner
+unfolding framed_text
+inner_of inner =
+    let count : length (framed_text inner) - 2 ≡ length inner = omega (arith, length-append inner (34 ∷ [])) in
+    ap (λ (n : ℕ). take n (inner ++ 34 ∷ [])) count ∙ take-append_seam inner (34 ∷ [])
+
+string_of : (inner : List ℕ) → list_all is_no_quote inner ≡ true → is_string_text (framed_text inner) ≡ true
+unfolding is_string_text framed_text
+string_of inner plain =
+    let text : List ℕ = 34 ∷ (inner ++ 34 ∷ []) in
+    let count : length text - 1 ≡ suc (length inner) = omega (arith, length-append inner (34 ∷ [])) in
+    let end : drop (length text - 1) text ≡ 34 ∷ [] =
+    ap (λ (n : ℕ). drop n text) count ∙ drop-append_seam inner (34 ∷ []) in
+    all_four (nat_le 2 (length text)) (bytes_eq (34 ∷ []) (take 1 text))
+    (bytes_eq (34 ∷ []) (drop (length text - 1) text))
+    (list_all is_no_quote (inner_text text))
+    (le-leb 2 (length text) (omega (arith, length-append inner (34 ∷ []))))
+    ((bytes_eq-Decides (34 ∷ []) (take 1 text)).1 refl)
+    ((bytes_eq-Decides (34 ∷ []) (drop (length text - 1) text)).1 (sym end))
+    (ap (list_all is_no_quote) (inner_of inner) ∙ plain)
+
+quoted_is_string : (text bytes : List ℕ) → IsQuoted text bytes → (is_string_text text ≡ true)
+    × (unescaped (inner_text text) ≡ bytes)
+unfolding framed_text
+quoted_is_string text bytes l = (
+  ap is_string_text l.1 ∙ string_of l.0 l.2,
+  ap (λ (text : List ℕ). unescaped (inner_text text)) l.1 ∙ (ap unescaped (inner_of l.0) ∙ sym l.3),
+)
+
+quoted_is_no_word : (text bytes : List ℕ) → IsQuoted text bytes → is_word text ≡ false
+unfolding is_word begins_word is_letter
+quoted_is_no_word text bytes l = rw l.1 refl
+
+none_of_three : (a b : Bool) → (a && b && false) ≡ false
+none_of_three true true = refl
+none_of_three true false = refl
+none_of_three false b = refl
+
+quoted_is_no_number : (text bytes : List ℕ) → IsQuoted text bytes → is_number text ≡ false
+unfolding is_number is_digit
+quoted_is_no_number text bytes l =
+    let quoted : List ℕ = 34 ∷ (l.0 ++ 34 ∷ []) in
+    ap is_number l.1 ∙ none_of_three (nat_lt 0 (length quoted)) (nat_le (length quoted) 39)
+
+number_is_no_word : (text : List ℕ) → is_number text ≡ true → is_word text ≡ false
+unfolding is_number is_word
+number_is_no_word [] e = refl
+number_is_no_word (b ∷ bs) e =
+    let digits = and_parts (nat_lt 0 (length (b ∷ bs)) && nat_le (length (b ∷ bs)) 39) (list_all is_digit (b ∷ bs)) e in
+    let first = and_parts (is_digit b) (list_all is_digit bs) digits.1 in
+    rw (digit-no_word b first.0) refl
+
+-- ---- one of three
+
+abbrev pick : {A : Type 0} → Bool → Bool → Bool → A → A → A → Option A
+pick a b c x y z = if a then Some x else (if b then Some y else (if c then Some z else None))
+
+picked : {A : Type 0} (a b c : Bool) (x y z n : A) → pick a b c x y z ≡ Some n
+    → ((a ≡ true) × (x ≡ n)) ⊎ ((b ≡ true) × (y ≡ n)) ⊎ ((c ≡ true) × (z ≡ n))
+picked true b c x y z n e = inl (refl, cc)
+picked false true c x y z n e = inr (inl (refl, cc))
+picked false false true x y z n e = inr (inr (refl, cc))
+picked false false false x y z n e = absurd cc
+
+pick_first : {A : Type 0} (a b c : Bool) (x y z : A) → a ≡ true → pick a b c x y z ≡ Some x
+pick_first a b c x y z e = rw e refl
+
+pick_second : {A : Type 0} (a b c : Bool) (x y z : A) → a ≡ false → b ≡ true → pick a b c x y z ≡ Some y
+pick_second a b c x y z unlike e = rw (unlike, e) refl
+
+pick_third : {A : Type 0} (a b c : Bool) (x y z : A) → a ≡ false → b ≡ false → c ≡ true → pick a b c x y z ≡ Some z
+pick_third a b c x y z unlike also e = rw (unlike, also, e) refl
+
+-- ---- what is written
+
+says : (written : List ℕ) (name : Name) → said written ≡ Some name → Says written name
+unfolding said
+says written name e = elim (picked (is_word written) (is_number written) (is_string_text written) (Text written)
+    (Number (digits_value 10 written)) (Text (unescaped (inner_text written))) name e) [
+      | inl l ↦ subst (λ (name : Name). Says written name) l.1 (inl (l.0, refl))
+      | inr (inl l) ↦ subst (λ (name : Name). Says written name) l.1 (l.0, refl)
+      | inr (inr l) ↦ subst (λ (name : Name). Says written name) l.1 (inr (is_quoted_by written l.0))
+    ]
+
+is_said : (written : List ℕ) (name : Name) → Says written name → said written ≡ Some name
+unfolding said
+is_said written (Text name) (inl l) =
+    pick_first (is_word written) (is_number written) (is_string_text written) (Text written)
+    (Number (digits_value 10 written)) (Text (unescaped (inner_text written))) l.0
+    ∙ ap (λ (name : List ℕ). Some (Text name)) l.1
+is_said written (Text name) (inr l) =
+    let string = quoted_is_string written name l in
+    pick_third (is_word written) (is_number written) (is_string_text written) (Text written)
+    (Number (digits_value 10 written)) (Text (unescaped (inner_text written)))
+    (quoted_is_no_word written name l) (quoted_is_no_number written name l) string.0
+    ∙ ap (λ (name : List ℕ). Some (Text name)) string.1
+is_said written (Number n) l =
+    pick_second (is_word written) (is_number written) (is_string_text written) (Text written)
+    (Number (digits_value 10 written)) (Text (unescaped (inner_text written))) (number_is_no_word written l.0) l.0
+    ∙ ap (λ (n : ℕ). Some (Number n)) l.1
+
+says_global : (written name : List ℕ) → said_global_text written ≡ Some name → SaysGlobal written name
+unfolding said_global_text
+says_global written name e = elim (picked (is_word written) (is_number written) (is_string_text written) written written
+    (unescaped (inner_text written)) name e) [
+      | inl l ↦ inl (l.0, l.1)
+      | inr (inl l) ↦ inr (inl (l.0, l.1))
+      | inr (inr l) ↦ inr (inr (subst (λ (name : List ℕ). IsQuoted written name) l.1 (is_quoted_by written l.0)))
+    ]
+
+global_is_said : (written name : List ℕ) → SaysGlobal written name → said_global_text written ≡ Some name
+unfolding said_global_text
+global_is_said written name (inl l) =
+    pick_first (is_word written) (is_number written) (is_string_text written) written written
+    (unescaped (inner_text written)) l.0
+    ∙ ap (λ (name : List ℕ). Some name) l.1
+global_is_said written name (inr (inl l)) =
+    pick_second (is_word written) (is_number written) (is_string_text written) written written
+    (unescaped (inner_text written))
+    (number_is_no_word written l.0) l.0
+    ∙ ap (λ (name : List ℕ). Some name) l.1
+global_is_said written name (inr (inr l)) =
+    let string = quoted_is_string written name l in
+    pick_third (is_word written) (is_number written) (is_string_text written) written written
+    (unescaped (inner_text written))
+    (quoted_is_no_word written name l) (quoted_is_no_number written name l) string.0
+    ∙ ap (λ (name : List ℕ). Some name) string.1
+
+-- ---- behind a sigil
+
+sigil_first : (sigil : ℕ) (text : List ℕ) → bytes_eq (sigil ∷ []) (take 1 text) ≡ true → text ≡ sigil ∷ drop 1 text
+sigil_first sigil [] e = absurd (let is : sigil ∷ [] ≡ [] = (bytes_eq-Decides (sigil ∷ []) []).0 e in cc)
+sigil_first sigil (b ∷ bs) e = let is : sigil ∷ [] ≡ b ∷ [] = (bytes_eq-Decides (sigil ∷ []) (b ∷ [])).0 e in cc
+
+local_kind : (kind : TokenKind) → is_local_kind kind ≡ true → kind ≡ Local
+local_kind Local e = refl
+local_kind _ e = absurd cc
+
+global_kind : (kind : TokenKind) → is_global_kind kind ≡ true → kind ≡ Global
+global_kind Global e = refl
+global_kind _ e = absurd cc
+
+where_true : {A : Type 0} (b : Bool) (o : Option A) (x : A) → ◌≡◌ {A = Option A} (if b then o else None) (Some x)
+    → (b ≡ true) × (o ≡ Some x)
+where_true true o x e = (refl, e)
+where_true false o x e = absurd cc
+
+pub local_there : (name : Name) (t : Lexeme) → said_local t ≡ Some name → IsLocal name t
+unfolding said_local
+local_there name t e =
+    let found = where_true (is_local_kind t.kind && bytes_eq (37 ∷ []) (take 1 t.text)) (said (drop 1 t.text)) name e in
+    let parts = and_parts (is_local_kind t.kind) (bytes_eq (37 ∷ []) (take 1 t.text)) found.0 in
+    (local_kind t.kind parts.0, drop 1 t.text, sigil_first 37 t.text parts.1, says (drop 1 t.text) name found.1)
+
+pub local_back : (name : Name) (t : Lexeme) → IsLocal name t → said_local t ≡ Some name
+unfolding said_local
+local_back name t is = rw (is.0, is.2) (is_said is.1 name is.3)
+
+pub global_there : (name : List ℕ) (t : Lexeme) → said_global t ≡ Some name → IsGlobal name t
+unfolding said_global
+global_there name t e =
+    let found = where_true (is_global_kind t.kind && bytes_eq (64 ∷ []) (take 1 t.text))
+    (said_global_text (drop 1 t.text)) name e in
+    let parts = and_parts (is_global_kind t.kind) (bytes_eq (64 ∷ []) (take 1 t.text)) found.0 in
+    (global_kind t.kind parts.0, drop 1 t.text, sigil_first 64 t.text parts.1, says_global (drop 1 t.text) name found.1)
+
+pub global_back : (name : List ℕ) (t : Lexeme) → IsGlobal name t → said_global t ≡ Some name
+unfolding said_global
+global_back name t is = rw (is.0, is.2) (global_is_said is.1 name is.3)

@@ -1,0 +1,40 @@
+-- Flags of operations.
+use Rattle.std.specs.Prelude.{ℕ, Bool, true, false, List, codes}
+use Rattle.ir_model.specs.declared.op.BinOp.{BinOp}
+use Rattle.ir_text.specs.Operations.{FlagKind, Wraps, Exact, Disjoint, NoFlag, flag_kind}
+use Rattle.ir_items.specs.Reading.{Read, pure, ◌>>=◌, choose, is_keyword, keyword_at}
+use Rattle.ir_body.specs.declared.flags.Flags.{Flags}
+
+-- whether the word stands there
+unfoldable pub flag_at : List ℕ → Read Bool
+flag_at text = choose (is_keyword text) (keyword_at text >>= λ _. pure true) (pure false)
+
+abbrev pub wrap_flags : Bool → Bool → Flags
+wrap_flags nuw nsw = record { nuw = nuw; nsw = nsw; exact = false; disjoint = false }
+
+-- `nuw` and `nsw`, each at most once, in any order
+unfoldable pub wraps_at : Read Flags
+wraps_at = choose (is_keyword (codes "nuw"))
+    (keyword_at (codes "nuw") >>= λ _. flag_at (codes "nsw") >>= λ nsw. pure (wrap_flags true nsw))
+    (choose (is_keyword (codes "nsw"))
+    (keyword_at (codes "nsw") >>= λ _. flag_at (codes "nuw") >>= λ nuw. pure (wrap_flags nuw true))
+    (pure (wrap_flags false false)))
+
+unfoldable pub exact_at : Read Flags
+exact_at = do
+  exact ← flag_at (codes "exact")
+  pure (record { nuw = false; nsw = false; exact = exact; disjoint = false })
+
+unfoldable pub disjoint_at : Read Flags
+disjoint_at = do
+  disjoint ← flag_at (codes "disjoint")
+  pure (record { nuw = false; nsw = false; exact = false; disjoint = disjoint })
+
+abbrev pub flags_of_kind_at : FlagKind → Read Flags
+flags_of_kind_at Wraps = wraps_at
+flags_of_kind_at Exact = exact_at
+flags_of_kind_at Disjoint = disjoint_at
+flags_of_kind_at NoFlag = pure (wrap_flags false false)
+
+unfoldable pub flags_at : BinOp → Read Flags
+flags_at op = flags_of_kind_at (flag_kind op)

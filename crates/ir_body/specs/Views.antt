@@ -1,0 +1,24 @@
+-- Parts of operations without ids, and the ids in them.
+use Rattle.std.specs.Prelude.{List, [], ◌∷◌, ◌++◌}
+use Rattle.scev_base.specs.declared.ids.BlockId.{BlockId}
+use Rattle.ir_text.specs.Sites.{Site, UsesBlock, operand_sites, bare_operand, op_sites, bare_op}
+use Rattle.ir_body.specs.declared.operands.Two.{Two}
+use Rattle.ir_body.specs.declared.operation.Operation.{Operation}
+
+abbrev pub bare_two : Two → Two
+bare_two two = record { kind = two.kind; left = bare_operand two.left; right = bare_operand two.right }
+
+abbrev pub two_sites : Two → List Site
+two_sites two = operand_sites two.left ++ operand_sites two.right
+
+abbrev pub bare_block_name : BlockId → BlockId
+bare_block_name id = record { 0 = 0 }
+
+abbrev pub block_name_sites : BlockId → List Site
+block_name_sites id = UsesBlock id.0 ∷ []
+
+abbrev pub bare_operation : Operation → Operation
+bare_operation operation = record { op = bare_op operation.op; words = operation.words }
+
+abbrev pub operation_sites : Operation → List Site
+operation_sites operation = op_sites operation.op

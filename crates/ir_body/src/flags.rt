@@ -1,0 +1,106 @@
+//! Flags of operations.
+
+ghost use Rattle.std.specs.Prelude.{◌≡◌, ◌≤◌, length, Ok};
+ghost use Rattle.ir_items.specs.Reading.{left_from};
+ghost use Rattle.ir_body.specs.Flags.{flag_at, wraps_at, exact_at, disjoint_at, flags_at};
+
+use ir_items::starts_keyword;
+use ir_lex::Tokens;
+use ir_model::BinOp;
+
+/// The flags of an operation of two operands.
+#[derive(Clone, Copy, Debug, PartialEq, Eq)]
+pub struct Flags {
+    pub nuw: bool,
+    pub nsw: bool,
+    pub exact: bool,
+    pub disjoint: bool,
+}
+
+const NONE: Flags = Flags {
+    nuw: false,
+    nsw: false,
+    exact: false,
+    disjoint: false,
+};
+
+/// Whether the word stands there, and the place behind it.
+#[tactic(auto, unfolding(crate::specs::Flags::flag_at))]
+pub(crate) fn read_flag(tokens: &Tokens<'_>, from: usize, text: &[u8]) -> (bool, usize)
+    requires { from ≤ length tokens.now.tokens }
+    ensures value { flag_at text.now (left_from tokens.now from) ≡ Ok (result.0, left_from tokens.now result.1) }
+    ensures forth { (from ≤ result.1) × (result.1 ≤ length tokens.now.tokens) }
+{
+    if starts_keyword(tokens, from, text) {
+        (true, from + 1)
+    } else {
+        (false, from)
+    }
+}
+
+/// The flags that stand behind the opcode.
+#[tactic(auto, unfolding(crate::specs::Flags::flags_at))]
+pub(crate) fn read_flags(tokens: &Tokens<'_>, from: usize, op: BinOp) -> (Flags, usize)
+    requires { from ≤ length tokens.now.tokens }
+    ensures value { flags_at op (left_from tokens.now from) ≡ Ok (result.0, left_from tokens.now result.1) }
+    ensures forth { (from ≤ result.1) × (result.1 ≤ length tokens.now.tokens) }
+{
+    match op {
+        BinOp::Add | BinOp::Sub | BinOp::Mul | BinOp::Shl => wraps(tokens, from),
+        BinOp::Udiv | BinOp::Sdiv | BinOp::Lshr | BinOp::Ashr => exact(tokens, from),
+        BinOp::Or => disjoint(tokens, from),
+        BinOp::Urem | BinOp::Srem | BinOp::And | BinOp::Xor => (NONE, from),
+    }
+}
+
+/// `nuw` and `nsw`, each at most once, in any order.
+#[tactic(auto, unfolding(crate::specs::Flags::wraps_at))]
+fn wraps(tokens: &Tokens<'_>, from: usize) -> (Flags, usize)
+    requires { from ≤ length tokens.now.tokens }
+    ensures value { wraps_at (left_from tokens.now from) ≡ Ok (result.0, left_from tokens.now result.1) }
+    ensures forth { (from ≤ result.1) × (result.1 ≤ length tokens.now.tokens) }
+{
+    if starts_keyword(tokens, from, b"nuw") {
+        let (nsw, at) = read_flag(tokens, from + 1, b"nsw");
+        return (
+            Flags {
+                nuw: true,
+                nsw,
+                ..NONE
+            },
+            at,
+        );
+    }
+    if starts_keyword(tokens, from, b"nsw") {
+        let (nuw, at) = read_flag(tokens, from + 1, b"nuw");
+        return (
+            Flags {
+                nuw,
+                nsw: true,
+                ..NONE
+            },
+            at,
+        );
+    }
+    (NONE, from)
+}
+
+#[tactic(auto, unfolding(crate::specs::Flags::exact_at))]
+fn exact(tokens: &Tokens<'_>, from: usize) -> (Flags, usize)
+    requires { from ≤ length tokens.now.tokens }
+    ensures value { exact_at (left_from tokens.now from) ≡ Ok (result.0, left_from tokens.now result.1) }
+    ensures forth { (from ≤ result.1) × (result.1 ≤ length tokens.now.tokens) }
+{
+    let (exact, at) = read_flag(tokens, from, b"exact");
+    (Flags { exact, ..NONE }, at)
+}
+
+#[tactic(auto, unfolding(crate::specs::Flags::disjoint_at))]
+fn disjoint(tokens: &Tokens<'_>, from: usize) -> (Flags, usize)
+    requires { from ≤ length tokens.now.tokens }
+    ensures value { disjoint_at (left_from tokens.now from) ≡ Ok (result.0, left_from tokens.now result.1) }
+    ensures forth { (from ≤ result.1) × (result.1 ≤ length tokens.now.tokens) }
+{
+    let (disjoint, at) = read_flag(tokens, from, b"disjoint");
+    (Flags { disjoint, ..NONE }, at)
+}

@@ -1,0 +1,199 @@
+//! Operands.
+
+ghost use Rattle.std.specs.Prelude.{◌≡◌, ◌+◌, ◌^◌, ◌<◌, ◌≤◌, length, IfOk, IfErr, IfSome, IsTrue, Some, None, if◌then◌else◌};
+ghost use Rattle.std.specs.Option.{is_some, option_map};
+ghost use Rattle.std.specs.Str.Parse.{signed_digits_value};
+ghost use Rattle.ir_items.specs.declared.fault.ItemFault.TheVariants.{OutOfMemory};
+ghost use Rattle.ir_text.specs.Said.{said_local, said_global};
+ghost use Rattle.ir_text.specs.declared.token.TokenKind.TheVariants.{Local, Global};
+ghost use Rattle.ir_text.specs.Sites.{operand_sites, typed_sites, bare_operand, bare_typed};
+ghost use Rattle.ir_items.specs.Reading.{left_from, first_given, Reads, ReadsAs};
+ghost use Rattle.ir_items.specs.Places.{mentions_at};
+ghost use Rattle.ir_body.specs.Operands.{operand_of, word_operand, operand_at, typed_at, pointer_at, block_name_at, target_at, two_at};
+ghost use Rattle.ir_body.specs.Views.{bare_two, two_sites, bare_block_name, block_name_sites};
+
+use crate::names::{is_global, is_local, is_signed_number};
+use ir_items::{ItemFault, behind_keyword, behind_sign, next, read_scalar_type};
+use ir_lex::{TokenKind, Tokens, signed_value};
+use ir_model::{IrType, Operand, TypedOperand};
+use scev_base::{BlockId, ValueId};
+
+/// An operand: a register, a global, a numeral, or one of `true`, `false`, `null`, `undef` and `poison`.
+///
+/// A numeral that doesn't fit 128 signed bits counts as want of memory; no lexer gives one.
+#[tactic(auto, unfolding(crate::specs::Operands::operand_at))]
+pub fn read_operand(tokens: &Tokens<'_>, from: usize) -> Result<(Operand, usize), ItemFault>
+    requires { from ≤ length tokens.now.tokens }
+    ensures value { ReadsAs (λ value. (bare_operand value, mentions_at tokens.now (operand_sites value))) tokens.now
+        result (operand_at (left_from tokens.now from)) }
+    ensures forth { IfOk result (λ read. (from < read.1) × (read.1 ≤ length tokens.now.tokens)) }
+{
+    match first_operand(tokens, from)? {
+        Some(value) => Ok((value, from + 1)),
+        None => Err(ItemFault::CannotGoOn { at_token: from }),
+    }
+}
+
+/// The operand that the token at a place is.
+fn first_operand(tokens: &Tokens<'_>, from: usize) -> Result<Option<Operand>, ItemFault>
+    ensures value { IfOk result (λ found. first_given operand_of (left_from tokens.now from)
+        ≡ option_map (λ value. (bare_operand value, mentions_at tokens.now (operand_sites value))) found) }
+    ensures within { IfOk result (λ found. IfSome found (λ _. (from < length tokens.now.tokens) × (from + 1 < 2 ^ 64))) }
+    ensures large { IfErr result (λ fault. fault ≡ OutOfMemory) }
+{
+    let Some((kind, text)) = next(tokens, from) else {
+        return Ok(None);
+    };
+    match kind {
+        TokenKind::Local => Ok(register(from, text)),
+        TokenKind::Global => Ok(global(from, text)),
+        TokenKind::Numeral => match numeral(text) {
+            Some(value) => Ok(Some(value)),
+            None => Err(ItemFault::OutOfMemory),
+        },
+        TokenKind::Word => Ok(word_operand(text)),
+        _ => Ok(None),
+    }
+}
+
+/// The register whose name stands at a place.
+fn register(from: usize, text: &[u8]) -> Option<Operand>
+    ensures { result ≡ (if is_some (said_local (record { kind = Local; text = text.now }))
+        then Some (Operand.Reg (record { 0 = from })) else None) }
+{
+    if is_local(TokenKind::Local, text) {
+        Some(Operand::Reg(ValueId(from as u64)))
+    } else {
+        None
+    }
+}
+
+/// The global whose name stands at a place.
+fn global(from: usize, text: &[u8]) -> Option<Operand>
+    ensures { result ≡ (if is_some (said_global (record { kind = Global; text = text.now }))
+        then Some (Operand.Global from) else None) }
+{
+    if is_global(TokenKind::Global, text) {
+        Some(Operand::Global(from as u64))
+    } else {
+        None
+    }
+}
+
+/// What a numeral writes, where it fits.
+fn numeral(text: &[u8]) -> Option<Operand>
+    ensures { IfSome result (λ value. value ≡ Operand.Num (signed_digits_value 10 text.now)) }
+{
+    if is_signed_number(text) {
+        let number = signed_value(text)?;
+        Some(Operand::Num(number))
+    } else {
+        None
+    }
+}
+
+/// The operand that a word is.
+#[tactic(auto, unfolding(crate::specs::Operands::word_operand))]
+fn word_operand(text: &[u8]) -> Option<Operand>
+    ensures { result ≡ word_operand text.now }
+{
+    if text == b"true".as_slice() {
+        Some(Operand::Num(1))
+    } else if text == b"false".as_slice() {
+        Some(Operand::Num(0))
+    } else if text == b"null".as_slice() {
+        Some(Operand::Null)
+    } else if text == b"undef".as_slice() {
+        Some(Operand::Undef)
+    } else if text == b"poison".as_slice() {
+        Some(Operand::Poison)
+    } else {
+        None
+    }
+}
+
+/// A block by its name.
+#[tactic(auto, unfolding(crate::specs::Operands::block_name_at))]
+pub fn read_block_name(tokens: &Tokens<'_>, from: usize) -> Result<(BlockId, usize), ItemFault>
+    requires { from ≤ length tokens.now.tokens }
+    ensures value { ReadsAs (λ id. (bare_block_name id, mentions_at tokens.now (block_name_sites id))) tokens.now
+        result (block_name_at (left_from tokens.now from)) }
+    ensures forth { IfOk result (λ read. (from < read.1) × (read.1 ≤ length tokens.now.tokens)) }
+{
+    if starts_local(tokens, from) {
+        Ok((BlockId(from as u64), from + 1))
+    } else {
+        Err(ItemFault::CannotGoOn { at_token: from })
+    }
+}
+
+/// Whether the token at a place is `%name`.
+fn starts_local(tokens: &Tokens<'_>, from: usize) -> bool
+    ensures value { result ≡ is_some (first_given said_local (left_from tokens.now from)) }
+    ensures within { IsTrue result → (from < length tokens.now.tokens) × (from + 1 < 2 ^ 64) }
+{
+    match next(tokens, from) {
+        Some((kind, text)) => is_local(kind, text),
+        None => false,
+    }
+}
+
+/// An operand with its type.
+#[tactic(auto, unfolding(crate::specs::Operands::typed_at), using(crate::proofs::Told::told))]
+pub fn read_typed(tokens: &Tokens<'_>, from: usize) -> Result<(TypedOperand, usize), ItemFault>
+    requires { from ≤ length tokens.now.tokens }
+    ensures value { ReadsAs (λ typed. (bare_typed typed, mentions_at tokens.now (typed_sites typed))) tokens.now
+        result (typed_at (left_from tokens.now from)) }
+    ensures forth { IfOk result (λ read. (from < read.1) × (read.1 ≤ length tokens.now.tokens)) }
+{
+    let (kind, at) = read_scalar_type(tokens, from)?;
+    let (value, at) = read_operand(tokens, at)?;
+    Ok((TypedOperand { kind, value }, at))
+}
+
+/// An operand behind `ptr`.
+#[tactic(auto, unfolding(crate::specs::Operands::pointer_at), using(crate::proofs::Told::told))]
+pub fn read_pointer(tokens: &Tokens<'_>, from: usize) -> Result<(Operand, usize), ItemFault>
+    requires { from ≤ length tokens.now.tokens }
+    ensures value { ReadsAs (λ value. (bare_operand value, mentions_at tokens.now (operand_sites value))) tokens.now
+        result (pointer_at (left_from tokens.now from)) }
+    ensures forth { IfOk result (λ read. (from < read.1) × (read.1 ≤ length tokens.now.tokens)) }
+{
+    let at = behind_keyword(tokens, from, b"ptr")?;
+    read_operand(tokens, at)
+}
+
+/// A block behind `label`.
+#[tactic(auto, unfolding(crate::specs::Operands::target_at), using(crate::proofs::Told::told))]
+pub fn read_target(tokens: &Tokens<'_>, from: usize) -> Result<(BlockId, usize), ItemFault>
+    requires { from ≤ length tokens.now.tokens }
+    ensures value { ReadsAs (λ id. (bare_block_name id, mentions_at tokens.now (block_name_sites id))) tokens.now
+        result (target_at (left_from tokens.now from)) }
+    ensures forth { IfOk result (λ read. (from < read.1) × (read.1 ≤ length tokens.now.tokens)) }
+{
+    let at = behind_keyword(tokens, from, b"label")?;
+    read_block_name(tokens, at)
+}
+
+/// Two operands of one type.
+#[derive(Drop)]
+pub struct Two {
+    pub kind: IrType,
+    pub left: Operand,
+    pub right: Operand,
+}
+
+/// Two operands of one type.
+#[tactic(auto, unfolding(crate::specs::Operands::two_at), using(crate::proofs::Told::told))]
+pub fn read_two(tokens: &Tokens<'_>, from: usize) -> Result<(Two, usize), ItemFault>
+    requires { from ≤ length tokens.now.tokens }
+    ensures value { ReadsAs (λ two. (bare_two two, mentions_at tokens.now (two_sites two))) tokens.now
+        result (two_at (left_from tokens.now from)) }
+    ensures forth { IfOk result (λ read. (from < read.1) × (read.1 ≤ length tokens.now.tokens)) }
+{
+    let (kind, at) = read_scalar_type(tokens, from)?;
+    let (left, at) = read_operand(tokens, at)?;
+    let at = behind_sign(tokens, at, b',')?;
+    let (right, at) = read_operand(tokens, at)?;
+    Ok((Two { kind, left, right }, at))
+}
