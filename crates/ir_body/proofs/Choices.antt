@@ -130,7 +130,8 @@ pub optional_reads : {X : Type 0} {test : Lexeme → Bool} {there : Read X} {A :
 optional_reads {X} {test} {there} {A} {Stop} none reads halts goes starts begun =
     chosen_by reads (pure_reads none) (record {
       starts = starts;
-      parted = λ x taken rest b stops. ap (λ (ts : List Lexeme). begins test (ts ++ rest)) b.1 ∙ not_begun x rest b.0 stops;
+      parted = λ x taken rest b stops. ap (λ (ts : List Lexeme). begins test (ts ++ rest)) b.1
+          ∙ not_begun x rest b.0 stops;
       gains = λ x taken rest b failed stops.
           halts_at x rest b.0 (ap (λ (ts : List Lexeme). begins test (ts ++ rest)) (sym b.1) ∙ failed);
       loses = λ x taken rest b stops. stops_at_all rest (λ t. tt);

@@ -48,13 +48,15 @@ binary_parts_tell op = without_unit (part_tells (λ flags. two_at >>= λ two. gi
 
 pub binary_tells : (op : BinOp) → IsTeller (binary_at op)
     (λ operation ms ts. (read : Flags × Two)
-    × (operation ≡ plain (Binary op read.0.nuw read.0.nsw read.0.exact read.0.disjoint read.1.kind read.1.left read.1.right))
+    × (operation ≡ plain (Binary op read.0.nuw read.0.nsw read.0.exact read.0.disjoint read.1.kind read.1.left
+    read.1.right))
     × (silent (SpellsBinaryFlags (flag_kind op) (spelled_flags read.0))
     ⊙ SpellsTwo read.1.kind read.1.left read.1.right) ms ts)
     Anything
 unfolding binary_at
 binary_tells op =
-    made_tells (λ read. plain (Binary op read.0.nuw read.0.nsw read.0.exact read.0.disjoint read.1.kind read.1.left read.1.right)) Anything
+    made_tells (λ read. plain (Binary op read.0.nuw read.0.nsw read.0.exact read.0.disjoint read.1.kind read.1.left
+    read.1.right)) Anything
     (λ read t stop. tt) (λ read t stop. tt) (binary_parts_tell op)
 
 -- ---- comparisons

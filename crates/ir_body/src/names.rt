@@ -1,14 +1,13 @@
 //! Whether a token says a name.
 
-ghost use Rattle.std.specs.Prelude.{◌≡◌, ◌+◌, ◌-◌, ◌∷◌, ◌<◌, length, take, drop};
+ghost use Rattle.std.specs.Prelude.{◌≡◌, ◌∷◌, drop};
 ghost use Rattle.std.specs.Option.{is_some};
-ghost use Rattle.std.specs.List.{list_all};
-ghost use Rattle.ir_text.specs.Bytes.{is_no_quote, is_digit};
-ghost use Rattle.ir_text.specs.Names.{is_number, is_signed_number};
-ghost use Rattle.ir_text.specs.Said.{said, said_global_text, is_string_text, inner_text, said_local, said_global};
+ghost use Rattle.ir_text.specs.Names.{is_signed_number};
+ghost use Rattle.ir_text.specs.Said.{said, said_global_text, said_local, said_global};
 
+use ir_items::{is_number, is_string_text};
 use ir_lex::TokenKind;
-use ir_text::{is_digit, is_word};
+use ir_text::is_word;
 
 /// Whether a token is `%name`.
 #[tactic(auto, unfolding(ir_text::specs::Said::said_local))]
@@ -60,44 +59,4 @@ fn is_name(written: &[u8]) -> bool
     ensures { result ≡ is_some (said written.now) }
 {
     is_word(written) || is_number(written) || is_string_text(written)
-}
-
-#[tactic(auto, unfolding(ir_text::specs::Names::is_number))]
-fn is_number(text: &[u8]) -> bool
-    ensures { result ≡ is_number text.now }
-{
-    0 < text.len() && text.len() <= 39 && are_digits(text)
-}
-
-fn are_digits(text: &[u8]) -> bool
-    ensures { result ≡ list_all is_digit text.now }
-{
-    text.iter().all(|byte| is_digit(*byte))
-}
-
-#[tactic(auto, unfolding(ir_text::specs::Said::is_string_text))]
-fn is_string_text(text: &[u8]) -> bool
-    ensures { result ≡ is_string_text text.now }
-{
-    text.len() >= 2
-        && text.starts_with(b"\"".as_slice())
-        && text.ends_with(b"\"".as_slice())
-        && has_no_quote(inner_text(text))
-}
-
-#[tactic(auto, unfolding(ir_text::specs::Bytes::is_no_quote))]
-fn has_no_quote(bytes: &[u8]) -> bool
-    ensures { result ≡ list_all is_no_quote bytes.now }
-{
-    bytes.iter().all(|byte| *byte != b'"')
-}
-
-// The text without its first byte and its last.
-fn inner_text(text: &[u8]) -> &[u8]
-    ensures { result.now ≡ inner_text text.now }
-{
-    if text.len() < 2 {
-        return b"";
-    }
-    &text[1..text.len() - 1]
 }

@@ -38,7 +38,8 @@ pub fn read_operand(tokens: &Tokens<'_>, from: usize) -> Result<(Operand, usize)
 fn first_operand(tokens: &Tokens<'_>, from: usize) -> Result<Option<Operand>, ItemFault>
     ensures value { IfOk result (λ found. first_given operand_of (left_from tokens.now from)
         ≡ option_map (λ value. (bare_operand value, mentions_at tokens.now (operand_sites value))) found) }
-    ensures within { IfOk result (λ found. IfSome found (λ _. (from < length tokens.now.tokens) × (from + 1 < 2 ^ 64))) }
+    ensures within { IfOk result (λ found.
+        IfSome found (λ _. (from < length tokens.now.tokens) × (from + 1 < 2 ^ 64))) }
     ensures large { IfErr result (λ fault. fault ≡ OutOfMemory) }
 {
     let Some((kind, text)) = next(tokens, from) else {

@@ -1,4 +1,5 @@
 pub mod Readers
+pub mod Repeated
 pub mod Combined
 pub mod SingleTokens
 pub mod Places

@@ -8,7 +8,8 @@ use Rattle.ir_items.specs.declared.fault.ItemFault.{ItemFault}
 use Rattle.ir_items.specs.declared.fault.ItemFault.TheVariants.{CannotGoOn, OutOfMemory}
 use Rattle.ir_items.specs.Reading.{Read, ◌>>=◌, go_on, pure, begins, repeat_at, repeated_at, left_from, ReadsAs, Passes}
 use Rattle.ir_items.proofs.Places.{shorter_left}
-use Rattle.ir_items.proofs.Readers.{chosen_first, chosen_other, none_left}
+use Rattle.ir_items.proofs.Readers.{chosen_first, chosen_other}
+use Rattle.ir_items.proofs.Repeated.{none_left}
 
 -- what was read before, and what is still read
 abbrev pub with_earlier : {A : Type 0} → List A → Result (List A × List Lexeme) ℕ → Result (List A × List Lexeme) ℕ

@@ -17,7 +17,8 @@ use Rattle.ir_text.specs.PassedOn.{IsMetadataWord, IsMetadataNumber, IsBang, in_
 use Rattle.ir_items.specs.Reading.{token_at, begins, is_punctuation}
 use Rattle.ir_items.specs.WordsReading.{is_signed, parentheses_at}
 use Rattle.ir_items.specs.MetadataReading.{is_metadata_kind, is_metadata, is_word_text, is_number_text, is_bang_text, is_metadata_word, is_metadata_number, is_bang, braces_at, braced_node_at, named_node_at, node_at, attached_at, attachment_at, attachments_at, pair_at, pairs_at}
-use Rattle.ir_items.proofs.Readers.{IsReader, Anything, Behind, of_language, mapped, chosen, repeated}
+use Rattle.ir_items.proofs.Readers.{IsReader, Anything, of_language, mapped, chosen}
+use Rattle.ir_items.proofs.Repeated.{Behind, repeated}
 use Rattle.ir_items.proofs.Combined.{token_reads, behind_token, not_at_first}
 use Rattle.ir_items.proofs.SingleTokens.{sign_reads, is_sign_itself}
 use Rattle.ir_items.proofs.ClosedReader.{round_closed, curly_closed}

@@ -4,7 +4,7 @@ use Rattle.std.specs.Prelude.{ℕ, List, [], map, Option, slice_get, unwrap_or}
 use Rattle.std.specs.Option.{option_and_then}
 use Rattle.ir_model.specs.declared.item.Item.{Item}
 use Rattle.ir_text.specs.Tokens.{Lexeme}
-use Rattle.ir_text.specs.Written.{Name, Text}
+use Rattle.ir_text.specs.Written.{Text}
 use Rattle.ir_text.specs.Said.{said_local, said_label, said_global}
 use Rattle.ir_text.specs.Mentions.{Mention}
 use Rattle.ir_text.specs.Mentions as mention

@@ -3,7 +3,6 @@
 ghost use Rattle.std.specs.Prelude.{◌≡◌, ◌+◌, ◌^◌, ◌<◌, ◌≤◌, ◌∷◌, map, length, IfOk, IfSome, IsTrue};
 ghost use Rattle.std.specs.List.{list_all};
 ghost use Rattle.ir_text.specs.Bytes.{is_no_quote};
-ghost use Rattle.ir_text.specs.Names.{is_number};
 ghost use Rattle.ir_text.specs.PassedOn.{opening_words, left_out_words, is_among};
 ghost use Rattle.ir_items.specs.Reading.{left_from, begins, first_given, one_at, token_at, Reads, Passes};
 ghost use Rattle.ir_items.specs.WordsReading.{is_passed_text, is_passed, is_string_text, is_string_token, is_signed, is_group_text, is_group, word_says, passed_word, parentheses_at, is_numeral, numeral_or_nothing_at, behind_word_at, word_piece_at, value_at, string_piece_at, other_piece_at, plain_piece_at, piece_at, begins_piece, run_at};
@@ -11,9 +10,109 @@ ghost use Rattle.ir_items.specs.WordsReading.{is_passed_text, is_passed, is_stri
 use crate::brackets::behind_brackets;
 use crate::cursor::{behind_sign, next, starts_sign};
 use crate::fault::ItemFault;
-use crate::numbers::{are_digits, int_width_of};
+use crate::forms::is_number;
+use crate::numbers::int_width_of;
 use ir_lex::{TokenKind, Tokens};
 use std::alloc::Global;
+
+/// The words that begin an item, an instruction, or the rest of a global.
+const OPENING_WORDS: [&[u8]; 37] = [
+    b"source_filename",
+    b"target",
+    b"attributes",
+    b"declare",
+    b"define",
+    b"global",
+    b"constant",
+    b"add",
+    b"sub",
+    b"mul",
+    b"shl",
+    b"udiv",
+    b"sdiv",
+    b"lshr",
+    b"ashr",
+    b"urem",
+    b"srem",
+    b"and",
+    b"xor",
+    b"or",
+    b"icmp",
+    b"zext",
+    b"sext",
+    b"trunc",
+    b"select",
+    b"phi",
+    b"freeze",
+    b"alloca",
+    b"load",
+    b"store",
+    b"tail",
+    b"notail",
+    b"call",
+    b"br",
+    b"switch",
+    b"ret",
+    b"unreachable",
+];
+
+/// The words of LLVM IR that are left out.
+const LEFT_OUT_WORDS: [&[u8]; 54] = [
+    b"half",
+    b"bfloat",
+    b"float",
+    b"double",
+    b"fp128",
+    b"x86_fp80",
+    b"ppc_fp128",
+    b"fadd",
+    b"fsub",
+    b"fmul",
+    b"fdiv",
+    b"frem",
+    b"fneg",
+    b"fcmp",
+    b"fptrunc",
+    b"fpext",
+    b"fptoui",
+    b"fptosi",
+    b"uitofp",
+    b"sitofp",
+    b"ptrtoint",
+    b"inttoptr",
+    b"bitcast",
+    b"addrspacecast",
+    b"addrspace",
+    b"extractvalue",
+    b"insertvalue",
+    b"extractelement",
+    b"insertelement",
+    b"shufflevector",
+    b"atomic",
+    b"volatile",
+    b"atomicrmw",
+    b"cmpxchg",
+    b"fence",
+    b"invoke",
+    b"resume",
+    b"landingpad",
+    b"cleanupret",
+    b"catchret",
+    b"catchswitch",
+    b"personality",
+    b"callbr",
+    b"indirectbr",
+    b"musttail",
+    b"va_arg",
+    b"asm",
+    b"module",
+    b"comdat",
+    b"alias",
+    b"ifunc",
+    b"type",
+    b"blockaddress",
+    b"getelementptr",
+];
 
 /// The place behind a run of passed-on words, and whether one of its pieces begins with `external` or
 /// `extern_weak`.
@@ -278,13 +377,6 @@ pub(crate) fn is_signed(text: &[u8]) -> bool
     }
 }
 
-#[tactic(auto, unfolding(ir_text::specs::Names::is_number))]
-fn is_number(text: &[u8]) -> bool
-    ensures { result ≡ is_number text.now }
-{
-    0 < text.len() && text.len() <= 39 && are_digits(text)
-}
-
 #[tactic(auto, unfolding(crate::specs::WordsReading::is_string_text))]
 fn is_string_text(text: &[u8]) -> bool
     ensures { result ≡ is_string_text text.now }
@@ -334,109 +426,14 @@ fn is_passed_text(text: &[u8]) -> bool
 fn is_opening(text: &[u8]) -> bool
     ensures { result ≡ is_among opening_words text.now }
 {
-    let words: [&[u8]; 37] = [
-        b"source_filename",
-        b"target",
-        b"attributes",
-        b"declare",
-        b"define",
-        b"global",
-        b"constant",
-        b"add",
-        b"sub",
-        b"mul",
-        b"shl",
-        b"udiv",
-        b"sdiv",
-        b"lshr",
-        b"ashr",
-        b"urem",
-        b"srem",
-        b"and",
-        b"xor",
-        b"or",
-        b"icmp",
-        b"zext",
-        b"sext",
-        b"trunc",
-        b"select",
-        b"phi",
-        b"freeze",
-        b"alloca",
-        b"load",
-        b"store",
-        b"tail",
-        b"notail",
-        b"call",
-        b"br",
-        b"switch",
-        b"ret",
-        b"unreachable",
-    ];
-    is_among(&words, text)
+    is_among(&OPENING_WORDS, text)
 }
 
 /// Whether the text is a word of LLVM IR that is left out.
 fn is_left_out(text: &[u8]) -> bool
     ensures { result ≡ is_among left_out_words text.now }
 {
-    let words: [&[u8]; 54] = [
-        b"half",
-        b"bfloat",
-        b"float",
-        b"double",
-        b"fp128",
-        b"x86_fp80",
-        b"ppc_fp128",
-        b"fadd",
-        b"fsub",
-        b"fmul",
-        b"fdiv",
-        b"frem",
-        b"fneg",
-        b"fcmp",
-        b"fptrunc",
-        b"fpext",
-        b"fptoui",
-        b"fptosi",
-        b"uitofp",
-        b"sitofp",
-        b"ptrtoint",
-        b"inttoptr",
-        b"bitcast",
-        b"addrspacecast",
-        b"addrspace",
-        b"extractvalue",
-        b"insertvalue",
-        b"extractelement",
-        b"insertelement",
-        b"shufflevector",
-        b"atomic",
-        b"volatile",
-        b"atomicrmw",
-        b"cmpxchg",
-        b"fence",
-        b"invoke",
-        b"resume",
-        b"landingpad",
-        b"cleanupret",
-        b"catchret",
-        b"catchswitch",
-        b"personality",
-        b"callbr",
-        b"indirectbr",
-        b"musttail",
-        b"va_arg",
-        b"asm",
-        b"module",
-        b"comdat",
-        b"alias",
-        b"ifunc",
-        b"type",
-        b"blockaddress",
-        b"getelementptr",
-    ];
-    is_among(&words, text)
+    is_among(&LEFT_OUT_WORDS, text)
 }
 
 fn is_among(texts: &[&[u8]], text: &[u8]) -> bool

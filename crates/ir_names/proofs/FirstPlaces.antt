@@ -1,5 +1,5 @@
 -- The names of globals, by their first places.
-use Rattle.std.proofs.Common.{◌≡◌, ℕ, zero, suc, ◌+◌, ◌<◌, ◌≤◌, Bool, true, false, cond, ◌||◌, List, [], ◌∷◌, ◌++◌, length, Option, Some, None, map, slice_get, MatchOption, refl, sym, ap, ◌∙◌, subst, Bor, nat_eq, arith, ◌⊎◌, inl, inr}
+use Rattle.std.proofs.Common.{◌≡◌, ℕ, zero, suc, ◌+◌, Bool, true, false, cond, ◌||◌, List, [], ◌∷◌, ◌++◌, length, Option, Some, None, map, slice_get, MatchOption, refl, sym, ap, ◌∙◌, subst, Bor, arith, ◌⊎◌, inl, inr}
 use Rattle.std.specs.List.{list_any, AllByRecursion, IsDistinct}
 use Rattle.std.specs.Str.{bytes_eq}
 use Rattle.std.specs.HashMap.{HashMap, get_by}
@@ -9,7 +9,7 @@ use Rattle.std.proofs.lemmas.List.Folds.{list_any-append}
 use Rattle.std.proofs.lemmas.Option.{none-some, same_Some, slice_get-map}
 use Rattle.std.proofs.lemmas.Slice.Eq.{bytes_eq-Decides}
 use Rattle.ir_text.specs.Numbering.{IsFirstPlace}
-use Rattle.ir_names.specs.Growing.{with_name, IsPrefix}
+use Rattle.ir_names.specs.Growing.{with_name}
 use Rattle.ir_names.specs.Firsts.{AreFirstPlaces}
 use Rattle.ir_names.proofs.Growing.{kept_first}
 

@@ -1,18 +1,17 @@
 -- A function whose walk is over, and that got its tables, is numbered.
-use Rattle.std.proofs.Common.{◌≡◌, ℕ, List, [], ◌++◌, map, refl, sym, ap, ◌∙◌, subst, Option}
-use Rattle.std.specs.Str.{bytes_eq}
+use Rattle.std.proofs.Common.{◌≡◌, ℕ, List, [], map, ap, ◌∙◌, subst}
 use Rattle.ir_model.specs.declared.function.ValueInfo.{ValueInfo}
 use Rattle.ir_model.specs.declared.function.Function.{Function}
 use Rattle.ir_model.specs.Defined.{HasTypes}
 use Rattle.ir_text.specs.Written.{Name}
 use Rattle.ir_text.specs.Mentions.{Mention}
 use Rattle.ir_text.specs.Sites.{function_sites, bare_function}
-use Rattle.ir_text.specs.Numbering.{Tables, tables_of, named, value_names, label_names, same_name, first_occurrences, text_of_name, StandsFor, EachMatches}
+use Rattle.ir_text.specs.Numbering.{tables_of, named, value_names, label_names, same_name, first_occurrences, text_of_name, StandsFor, EachMatches}
 use Rattle.ir_lex.specs.Tokenized.{Tokenized}
 use Rattle.ir_items.specs.Places.{mentions_at}
 use Rattle.ir_names.specs.declared.seen.Seen.{Seen}
 use Rattle.ir_names.specs.Growing.{with_names, IsPrefix}
-use Rattle.ir_names.specs.Renumbered.{Becomes, Grows}
+use Rattle.ir_names.specs.Renumbered.{Becomes}
 use Rattle.ir_names.specs.Whole.{FunctionNumbered}
 use Rattle.ir_names.proofs.Growing.{IsPrefix-refl, with_names_from_none}
 use Rattle.ir_names.proofs.KeyNames.{same_name_only, same_name_self}

@@ -1,18 +1,17 @@
 -- Items one after another, and the module of them.
 use Rattle.std.proofs.Common.{◌≡◌, ℕ, List, [], ◌∷◌, ◌++◌, map, not, reverse, refl, sym, ap, ◌∙◌, subst, true}
-use Rattle.std.specs.List.{flat_map, list_any, filter}
+use Rattle.std.specs.List.{flat_map, list_any}
 use Rattle.std.specs.Str.{bytes_eq}
 use Rattle.std.proofs.lemmas.List.{append-nil, append_assoc, reverse-append, reverse-reverse, map-append}
 use Rattle.std.proofs.lemmas.Slice.Eq.{bytes_eq-Decides}
 use Rattle.ir_model.specs.declared.function.Function.{Function}
 use Rattle.ir_model.specs.declared.item.Item.{Item}
 use Rattle.ir_model.specs.declared.item.Item.TheVariants as item
-use Rattle.ir_model.specs.declared.item.Module.{Module}
 use Rattle.ir_text.specs.Items.{Draft}
 use Rattle.ir_text.specs.Sites.{without_ids}
-use Rattle.ir_text.specs.Numbering.{global_names, used_globals, defined_by, defined_globals, global_table, first_occurrences, IsNumberedItem, IsNumberedModule, EachMatches}
+use Rattle.ir_text.specs.Numbering.{global_names, used_globals, defined_by, defined_globals, IsNumberedItem, IsNumberedModule, EachMatches}
 use Rattle.ir_lex.specs.Tokenized.{Tokenized}
-use Rattle.ir_items.specs.Places.{mentions_at, draft_of}
+use Rattle.ir_items.specs.Places.{draft_of}
 use Rattle.ir_names.specs.Growing.{with_names, IsPrefix}
 use Rattle.ir_names.specs.Whole.{FunctionNumbered, ItemNumbered, ItemsNumbered}
 use Rattle.ir_names.proofs.Growing.{IsPrefix-refl, IsPrefix-trans, with_names-prefix, with_names-append, with_names_are, first_occurrences-filter}

@@ -1,17 +1,15 @@
 -- A walk past one mention.
-use Rattle.std.proofs.Common.{◌≡◌, ℕ, suc, zero, ◌<◌, List, [], ◌∷◌, ◌++◌, Option, Some, None, map, slice_get, unwrap_or, refl, sym, ap, ◌∙◌, subst}
+use Rattle.std.proofs.Common.{◌≡◌, ℕ, List, [], ◌∷◌, Some, slice_get, unwrap_or, ap, ◌∙◌, subst}
 use Rattle.std.specs.Str.{bytes_eq}
-use Rattle.ir_text.specs.Written.{Name, Text, Number}
+use Rattle.ir_text.specs.Written.{Name, Text}
 use Rattle.ir_text.specs.Said.{said_local, said_label, said_global}
-use Rattle.ir_text.specs.Mentions.{Mention}
-use Rattle.ir_text.specs.Mentions as mention
 use Rattle.ir_text.specs.Sites.{Site}
 use Rattle.ir_text.specs.Sites as site
-use Rattle.ir_text.specs.Numbering.{Tables, next_after, or_next, same_name, IsFirstPlace}
+use Rattle.ir_text.specs.Numbering.{next_after, or_next, same_name, IsFirstPlace}
 use Rattle.ir_lex.specs.Tokenized.{Tokenized}
 use Rattle.ir_items.specs.Places.{said_at}
 use Rattle.ir_names.specs.declared.seen.Seen.{Seen}
-use Rattle.ir_names.specs.Growing.{with_name, IsPrefix}
+use Rattle.ir_names.specs.Growing.{with_name}
 use Rattle.ir_names.specs.Renumbered.{Becomes}
 use Rattle.ir_names.proofs.Growing.{kept, kept_first}
 

@@ -1,10 +1,9 @@
 -- A walk past some mentions, and then past more.
-use Rattle.std.proofs.Common.{◌≡◌, ℕ, List, [], ◌∷◌, ◌++◌, Option, Some, None, map, refl, sym, ap, ◌∙◌, subst, Bool}
+use Rattle.std.proofs.Common.{◌≡◌, ℕ, List, [], ◌∷◌, ◌++◌, Some, None, map, refl, sym, ap, ◌∙◌, subst, Bool}
 use Rattle.std.specs.List.{flat_map}
 use Rattle.std.specs.Str.{bytes_eq}
 use Rattle.std.proofs.lemmas.List.{map-append}
 use Rattle.std.proofs.lemmas.List.Concat.{flat_map_single}
-use Rattle.ir_text.specs.Written.{Name}
 use Rattle.ir_text.specs.Mentions.{Mention}
 use Rattle.ir_text.specs.Mentions as mention
 use Rattle.ir_text.specs.Sites.{Site}
@@ -13,8 +12,8 @@ use Rattle.ir_lex.specs.Tokenized.{Tokenized}
 use Rattle.ir_items.specs.Places.{mention_at, mentions_at}
 use Rattle.ir_names.specs.declared.seen.Seen.{Seen}
 use Rattle.ir_names.specs.Growing.{with_names, IsPrefix}
-use Rattle.ir_names.specs.Renumbered.{next_behind, Passes, Grows, Becomes, Renumbers}
-use Rattle.ir_names.proofs.Growing.{IsPrefix-refl, IsPrefix-trans, with_names-prefix, with_names-append}
+use Rattle.ir_names.specs.Renumbered.{next_behind, Passes, Grows, Becomes}
+use Rattle.ir_names.proofs.Growing.{IsPrefix-trans, with_names-prefix, with_names-append}
 
 pub named-append : (n : ℕ) (ms ns : List Mention) → named n (ms ++ ns) ≡ named n ms ++ named (next_behind n ms) ns
 named-append n [] ns = refl

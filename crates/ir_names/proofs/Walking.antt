@@ -6,7 +6,7 @@ use Rattle.std.proofs.lemmas.Grind.{flat_map-append}
 use Rattle.ir_text.specs.Sites.{Site}
 use Rattle.ir_lex.specs.Tokenized.{Tokenized}
 use Rattle.ir_names.specs.declared.seen.Seen.{Seen}
-use Rattle.ir_names.specs.Renumbered.{Becomes, Renumbers}
+use Rattle.ir_names.specs.Renumbered.{Renumbers}
 use Rattle.ir_names.proofs.Passing.{both, becomes_none}
 
 -- Of all items those in front have their ids, and the others lie in reverse order.

@@ -1,5 +1,5 @@
 -- The first place of each name of a list.
-use Rattle.std.specs.Prelude.{◌≡◌, ℕ, false, List, Option, MatchOption}
+use Rattle.std.specs.Prelude.{◌≡◌, ℕ, false, List, MatchOption}
 use Rattle.std.specs.Borrow.{Bor}
 use Rattle.std.specs.List.{list_any}
 use Rattle.std.specs.Str.{bytes_eq}

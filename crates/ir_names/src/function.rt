@@ -48,7 +48,8 @@ fn value_table(
     kinds: &[Option<IrType>],
 ) -> Result<Items<ValueInfo>, AllocError>
     requires { length kinds.now ≡ length names.now }
-    ensures names { IfOk result (λ table. map (λ info. info.name) table ≡ map (λ key. text_of_name (name_of_key key)) names.now) }
+    ensures names { IfOk result (λ table. map (λ info. info.name) table
+        ≡ map (λ key. text_of_name (name_of_key key)) names.now) }
     ensures kinds { IfOk result (λ table. map (λ info. info.kind) table ≡ map (λ kind. unwrap_or kind Void) kinds.now) }
 {
     let mut table = Items::new(alloc);

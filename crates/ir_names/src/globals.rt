@@ -102,7 +102,8 @@ fn first_places<'a>(alloc: Global, names: &'a [Text]) -> Result<IndexMap<&'a [u8
 
 // Notes the place of a name that has none yet.
 fn note<'a>(places: &mut IndexMap<&'a [u8], u64>, name: &'a [u8], at: u64) -> Result<(), AllocError>
-    ensures { OnOk result ((names : List (List ℕ)) → at ≡ length names → AreFirstPlaces places.old names → AreFirstPlaces places.new (names ++ name.now ∷ [])) }
+    ensures { OnOk result ((names : List (List ℕ)) → at ≡ length names → AreFirstPlaces places.old names
+        → AreFirstPlaces places.new (names ++ name.now ∷ [])) }
 {
     if let Some(_place) = places.get(name) {
         return Ok(());

@@ -32,7 +32,8 @@ pub fn entries<'a>(
     seen: &mut Seen<'a>,
     entries: &mut Items<PhiEntry>,
 ) -> Result<(), AllocError>
-    ensures { OnOk result (Renumbers (flat_map entry_sites) (map bare_entry) spoken.now seen.old seen.new entries.old entries.new) }
+    ensures { OnOk result (Renumbers (flat_map entry_sites) (map bare_entry)
+        spoken.now seen.old seen.new entries.old entries.new) }
 {
     let mut rest = taken_reversed(alloc, entries)?;
     while let Some(next) = rest.pop() {
@@ -48,7 +49,8 @@ pub fn operands<'a>(
     seen: &mut Seen<'a>,
     operands: &mut Items<TypedOperand>,
 ) -> Result<(), AllocError>
-    ensures { OnOk result (Renumbers (flat_map typed_sites) (map bare_typed) spoken.now seen.old seen.new operands.old operands.new) }
+    ensures { OnOk result (Renumbers (flat_map typed_sites) (map bare_typed)
+        spoken.now seen.old seen.new operands.old operands.new) }
 {
     let mut rest = taken_reversed(alloc, operands)?;
     while let Some(next) = rest.pop() {
@@ -64,7 +66,8 @@ pub fn cases<'a>(
     seen: &mut Seen<'a>,
     cases: &mut Items<Case>,
 ) -> Result<(), AllocError>
-    ensures { OnOk result (Renumbers (flat_map case_sites) (map bare_case) spoken.now seen.old seen.new cases.old cases.new) }
+    ensures { OnOk result (Renumbers (flat_map case_sites) (map bare_case)
+        spoken.now seen.old seen.new cases.old cases.new) }
 {
     let mut rest = taken_reversed(alloc, cases)?;
     while let Some(next) = rest.pop() {

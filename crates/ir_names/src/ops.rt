@@ -65,7 +65,8 @@ fn pair<'a>(
     left: &mut Operand,
     right: &mut Operand,
 ) -> Result<(), AllocError>
-    ensures { OnOk result (Renumbers pair_sites bare_pair spoken.now seen.old seen.new (left.old, right.old) (left.new, right.new)) }
+    ensures { OnOk result (Renumbers pair_sites bare_pair spoken.now seen.old seen.new (left.old, right.old)
+        (left.new, right.new)) }
 {
     *left = operand(spoken, seen, *left)?;
     *right = operand(spoken, seen, *right)?;

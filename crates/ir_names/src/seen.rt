@@ -32,7 +32,8 @@ impl<'a> Seen<'a> {
         spoken: &Spoken<'a, '_>,
         place: ValueId,
     ) -> Result<ValueId, AllocError>
-        ensures { IfOk result (λ id. Becomes spoken.now self.old self.new (DefinesValue place.0 ∷ []) (DefinesValue id.0 ∷ [])) }
+        ensures { IfOk result (λ id. Becomes spoken.now self.old self.new (DefinesValue place.0 ∷ [])
+            (DefinesValue id.0 ∷ [])) }
     {
         let name = name_or_next(&mut self.next, spoken.local(place.0)?)?;
         Ok(ValueId(self.values.id(name)?))
@@ -44,7 +45,8 @@ impl<'a> Seen<'a> {
         spoken: &Spoken<'a, '_>,
         place: ValueId,
     ) -> Result<ValueId, AllocError>
-        ensures { IfOk result (λ id. Becomes spoken.now self.old self.new (UsesValue place.0 ∷ []) (UsesValue id.0 ∷ [])) }
+        ensures { IfOk result (λ id. Becomes spoken.now self.old self.new (UsesValue place.0 ∷ [])
+            (UsesValue id.0 ∷ [])) }
     {
         let name = or_empty(spoken.local(place.0)?);
         Ok(ValueId(self.values.id(name)?))
@@ -56,7 +58,8 @@ impl<'a> Seen<'a> {
         spoken: &Spoken<'a, '_>,
         place: BlockId,
     ) -> Result<BlockId, AllocError>
-        ensures { IfOk result (λ id. Becomes spoken.now self.old self.new (DefinesBlock place.0 ∷ []) (DefinesBlock id.0 ∷ [])) }
+        ensures { IfOk result (λ id. Becomes spoken.now self.old self.new (DefinesBlock place.0 ∷ [])
+            (DefinesBlock id.0 ∷ [])) }
     {
         let name = name_or_next(&mut self.next, spoken.label(place.0)?)?;
         Ok(BlockId(self.labels.id(name)?))
@@ -68,7 +71,8 @@ impl<'a> Seen<'a> {
         spoken: &Spoken<'a, '_>,
         place: BlockId,
     ) -> Result<BlockId, AllocError>
-        ensures { IfOk result (λ id. Becomes spoken.now self.old self.new (UsesBlock place.0 ∷ []) (UsesBlock id.0 ∷ [])) }
+        ensures { IfOk result (λ id. Becomes spoken.now self.old self.new (UsesBlock place.0 ∷ [])
+            (UsesBlock id.0 ∷ [])) }
     {
         let name = or_empty(spoken.local(place.0)?);
         Ok(BlockId(self.labels.id(name)?))
@@ -76,7 +80,8 @@ impl<'a> Seen<'a> {
 
     /// The id of a global where it is used.
     pub fn uses_global(&mut self, spoken: &Spoken<'a, '_>, place: u64) -> Result<u64, AllocError>
-        ensures { IfOk result (λ id. Becomes spoken.now self.old self.new (UsesGlobal place ∷ []) (UsesGlobal id ∷ [])) }
+        ensures { IfOk result (λ id. Becomes spoken.now self.old self.new (UsesGlobal place ∷ [])
+            (UsesGlobal id ∷ [])) }
     {
         let name = match spoken.global(place) {
             Some(name) => name,

@@ -22,7 +22,8 @@ pub fn params<'a>(
     seen: &mut Seen<'a>,
     params: &mut Items<Param>,
 ) -> Result<(), AllocError>
-    ensures { OnOk result (Renumbers (flat_map param_sites) (map bare_param) spoken.now seen.old seen.new params.old params.new) }
+    ensures { OnOk result (Renumbers (flat_map param_sites) (map bare_param)
+        spoken.now seen.old seen.new params.old params.new) }
 {
     let mut rest = taken_reversed(alloc, params)?;
     while let Some(next) = rest.pop() {
@@ -38,7 +39,8 @@ pub fn blocks<'a>(
     seen: &mut Seen<'a>,
     blocks: &mut Items<Block>,
 ) -> Result<(), AllocError>
-    ensures { OnOk result (Renumbers (flat_map block_sites) (map bare_block) spoken.now seen.old seen.new blocks.old blocks.new) }
+    ensures { OnOk result (Renumbers (flat_map block_sites) (map bare_block)
+        spoken.now seen.old seen.new blocks.old blocks.new) }
 {
     let mut rest = taken_reversed(alloc, blocks)?;
     while let Some(next) = rest.pop() {
@@ -78,7 +80,8 @@ fn instrs<'a>(
     seen: &mut Seen<'a>,
     instrs: &mut Items<Instr>,
 ) -> Result<(), AllocError>
-    ensures { OnOk result (Renumbers (flat_map instr_sites) (map bare_instr) spoken.now seen.old seen.new instrs.old instrs.new) }
+    ensures { OnOk result (Renumbers (flat_map instr_sites) (map bare_instr)
+        spoken.now seen.old seen.new instrs.old instrs.new) }
 {
     let mut rest = taken_reversed(alloc, instrs)?;
     while let Some(next) = rest.pop() {

@@ -12,9 +12,10 @@ ghost use Rattle.ir_names.specs.Keys.{name_of_key};
 ghost use Rattle.ir_names.specs.Meant.{meant, has_escape};
 
 use crate::key::Key;
+use ir_items::{inner_text, is_number, is_string_text};
 use ir_lex::unsigned_value;
 use ir_model::Text;
-use ir_text::{is_digit, is_word};
+use ir_text::is_word;
 use sqlite_items::Items;
 use std::alloc::{AllocError, Global};
 
@@ -71,7 +72,8 @@ pub fn meant(alloc: Global, written: &[u8]) -> Result<Option<Text>, AllocError>
 #[tactic(auto, using(crate::proofs::Plain::plain_inner))]
 fn string_bytes<'a>(written: &'a [u8], known: Option<&'a [u8]>) -> Option<&'a [u8]>
     requires { option_copied known ≡ meant written.now }
-    ensures { option_copied result ≡ (if is_string_text written.now then Some (unescaped (inner_text written.now)) else None) }
+    ensures { option_copied result
+        ≡ (if is_string_text written.now then Some (unescaped (inner_text written.now)) else None) }
 {
     if !is_string_text(written) {
         return None;
@@ -82,51 +84,10 @@ fn string_bytes<'a>(written: &'a [u8], known: Option<&'a [u8]>) -> Option<&'a [u
     }
 }
 
-#[tactic(auto, unfolding(ir_text::specs::Names::is_number))]
-fn is_number(text: &[u8]) -> bool
-    ensures value { result ≡ is_number text.now }
-    ensures digits { IsTrue result → IsTrue (list_all is_digit text.now) }
-{
-    0 < text.len() && text.len() <= 39 && are_digits(text)
-}
-
-fn are_digits(text: &[u8]) -> bool
-    ensures { result ≡ list_all is_digit text.now }
-{
-    text.iter().all(|byte| is_digit(*byte))
-}
-
-#[tactic(auto, unfolding(ir_text::specs::Said::is_string_text))]
-fn is_string_text(text: &[u8]) -> bool
-    ensures { result ≡ is_string_text text.now }
-{
-    text.len() >= 2
-        && text.starts_with(b"\"".as_slice())
-        && text.ends_with(b"\"".as_slice())
-        && has_no_quote(inner_text(text))
-}
-
-#[tactic(auto, unfolding(ir_text::specs::Bytes::is_no_quote))]
-fn has_no_quote(bytes: &[u8]) -> bool
-    ensures { result ≡ list_all is_no_quote bytes.now }
-{
-    bytes.iter().all(|byte| *byte != b'"')
-}
-
 fn has_escape(text: &[u8]) -> bool
     ensures { result ≡ has_escape text.now }
 {
     text.iter().any(|byte| *byte == b'\\')
-}
-
-// The text without its first byte and its last.
-fn inner_text(text: &[u8]) -> &[u8]
-    ensures { result.now ≡ inner_text text.now }
-{
-    if text.len() < 2 {
-        return b"";
-    }
-    &text[1..text.len() - 1]
 }
 
 fn unescape(alloc: Global, text: &[u8]) -> Result<Text, AllocError>
@@ -144,7 +105,8 @@ fn unescape(alloc: Global, text: &[u8]) -> Result<Text, AllocError>
 // The first byte that is meant, and the text behind what means it.
 #[tactic(auto, unfolding(ir_text::specs::Written::unescaped))]
 fn first_meant(text: &[u8]) -> Option<(u8, &[u8])>
-    ensures { MatchOption result (text.now ≡ []) (λ first. (unescaped text.now ≡ first.0 ∷ unescaped first.1.now) × (length first.1.now < length text.now)) }
+    ensures { MatchOption result (text.now ≡ []) (λ first. (unescaped text.now ≡ first.0 ∷ unescaped first.1.now)
+        × (length first.1.now < length text.now)) }
 {
     match text {
         [] => None,

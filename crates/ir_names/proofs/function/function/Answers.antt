@@ -19,7 +19,8 @@ returns c =
       next = c.requires.next;
       no_values = c.requires.values;
       no_labels = c.requires.labels;
-      becomes = both (as_map value_of c.args.function.params c.params.new.params c.in_ok-params.ensures.becomes) c.in_ok-blocks.ensures.becomes;
+      becomes = both (as_map value_of c.args.function.params c.params.new.params c.in_ok-params.ensures.becomes)
+          c.in_ok-blocks.ensures.becomes;
       same = rw (c.in_ok-params.ensures.same, c.in_ok-blocks.ensures.same) refl;
       values = c.in_ok-function.ensures.names ∙ texts_of c.as_slice-names.result.now
           ∙ ap (map text_of_name) c.as_slice-names.ensures;

@@ -1,4 +1,4 @@
-use Rattle.std.proofs.Common.{◌≡◌, Option, Some, map, take, unwrap_or}
+use Rattle.std.proofs.Common.{◌≡◌, Option, map, take, unwrap_or}
 use Rattle.ir_model.specs.declared.types.IrType.{IrType}
 use Rattle.ir_model.specs.declared.types.IrType.TheVariants.{Void}
 use Rattle.ir_model.specs.declared.function.ValueInfo.{ValueInfo}

@@ -1,4 +1,4 @@
-use Rattle.std.proofs.Common.{◌≡◌, ℕ, List, Option, Some, None, length, sym, ap, ◌∙◌, cond, Bor}
+use Rattle.std.proofs.Common.{ℕ, List, Some, ap, ◌∙◌, cond, Bor}
 use Rattle.std.specs.Str.{bytes_eq}
 use Rattle.std.specs.HashMap.{get_by}
 use Rattle.ir_names.proofs.FirstPlaces.{place_is, place_missing, stands_among, places_same, places_more}

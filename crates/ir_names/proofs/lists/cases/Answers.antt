@@ -9,7 +9,8 @@ loop-next-init c = rw c.in_ok-rest.ensures.empty
 
 pub loop-next-preserved : goal.loop-next-preserved
 loop-next-preserved c =
-    rw c.in_ok-push.ensures.ok (walked_more case_sites bare_case c.loop-next.invariant c.in-Some.ensures c.in_ok-case.ensures)
+    rw c.in_ok-push.ensures.ok (walked_more case_sites bare_case c.loop-next.invariant c.in-Some.ensures
+    c.in_ok-case.ensures)
 
 pub returns : goal.returns
 returns c = walked_all case_sites bare_case c.loop-next.invariant c.in_default.ensures.0

@@ -8,7 +8,8 @@ loop-next-init c = rw c.in_ok-rest.ensures.empty
 
 pub loop-next-preserved : goal.loop-next-preserved
 loop-next-preserved c =
-    rw c.in_ok-push.ensures.ok (walked_more entry_sites bare_entry c.loop-next.invariant c.in-Some.ensures c.in_ok-entry.ensures)
+    rw c.in_ok-push.ensures.ok (walked_more entry_sites bare_entry c.loop-next.invariant c.in-Some.ensures
+    c.in_ok-entry.ensures)
 
 pub returns : goal.returns
 returns c = walked_all entry_sites bare_entry c.loop-next.invariant c.in_default.ensures.0

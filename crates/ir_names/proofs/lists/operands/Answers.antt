@@ -8,7 +8,8 @@ loop-next-init c = rw c.in_ok-rest.ensures.empty
 
 pub loop-next-preserved : goal.loop-next-preserved
 loop-next-preserved c =
-    rw c.in_ok-push.ensures.ok (walked_more typed_sites bare_typed c.loop-next.invariant c.in-Some.ensures c.in_ok-typed.ensures)
+    rw c.in_ok-push.ensures.ok (walked_more typed_sites bare_typed c.loop-next.invariant c.in-Some.ensures
+    c.in_ok-typed.ensures)
 
 pub returns : goal.returns
 returns c = walked_all typed_sites bare_typed c.loop-next.invariant c.in_default.ensures.0

@@ -7,7 +7,8 @@ loop-next-init c = rw c.in_ok-rest.ensures.empty
 
 pub loop-next-preserved : goal.loop-next-preserved
 loop-next-preserved c =
-    rw c.in_ok-push.ensures.ok (items_one_more c.args.spoken.now _ _ _ _ _ _ _ _ _ c.loop-next.invariant c.in-Some.ensures c.in_ok-after.ensures)
+    rw c.in_ok-push.ensures.ok (items_one_more c.args.spoken.now _ _ _ _ _ _ _ _ _ c.loop-next.invariant
+    c.in-Some.ensures c.in_ok-after.ensures)
 
 pub returns : goal.returns
 returns c = items_all c.args.spoken.now _ _ _ _ _ c.loop-next.invariant c.in_default.ensures.0

@@ -1,4 +1,4 @@
-use Rattle.std.proofs.Common.{◌+◌, suc, ◌≡◌, arith, ◌∙◌, ap, ◌++◌, ◌∷◌, [], List, ℕ, Option, add-one}
+use Rattle.std.proofs.Common.{add-one}
 use Rattle.ir_lex.specs.Tokenized.{lexemes}
 use Rattle.ir_names.specs.Meant.{meant_of}
 use Rattle.ir_names.proofs.Plain.{map_more}

@@ -27,4 +27,7 @@ returns-clause-names c =
 pub returns-clause-first : goal.returns-clause-first
 returns-clause-first c =
     let s = c.in_ok-at.ensures.stored in
-    rw c.in-Some-checked_add.ensures.1 (new_place c.self.inside.defined.now c.insert_full.new.self.keys c.args.name s.0 c.in_ok-at.at (place_missing c.self.inside.defined.now c.args.name.now _ (c.self.invariant c.args.name.now) c.in_default.ensures.value) c.in_ok-at.ensures.unique s.1 s.2)
+    rw c.in-Some-checked_add.ensures.1
+    (new_place c.self.inside.defined.now c.insert_full.new.self.keys c.args.name s.0 c.in_ok-at.at
+    (place_missing c.self.inside.defined.now c.args.name.now _
+    (c.self.invariant c.args.name.now) c.in_default.ensures.value) c.in_ok-at.ensures.unique s.1 s.2)
