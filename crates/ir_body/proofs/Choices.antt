@@ -2,9 +2,9 @@
 use Rattle.std.proofs.Common.{◌≡◌, ℕ, suc, Bool, true, false, List, [], ◌∷◌, ◌++◌, length, Err, inl, inr, refl, sym, ap, subst, ◌∙◌}
 use Rattle.ir_text.specs.Tokens.{Lexeme}
 use Rattle.ir_text.specs.Language.{◌or◌, nothing}
-use Rattle.ir_items.specs.Reading.{Read, pure, begins, choose}
-use Rattle.ir_items.proofs.Combined.{pure_reads}
-use Rattle.ir_items.proofs.Readers.{StopsAt, Refused, IsReader, stops_at_all, stops_also, chosen_first, chosen_other, either, begins_still, begins_before, begins_not_before, begins_instead}
+use Rattle.ir_parts.specs.Reading.{Read, pure, begins, choose}
+use Rattle.ir_parts.proofs.Combined.{pure_reads}
+use Rattle.ir_parts.proofs.Readers.{StopsAt, Refused, IsReader, stops_at_all, stops_also, chosen_first, chosen_other, either, begins_still, begins_before, begins_not_before, begins_instead}
 
 pub record Chooses {X : Type 0} (test : Lexeme → Bool) (there : Read X) (A B : X → List Lexeme → Type 0)
     (Stop StopB : X → Lexeme → Type 0) : Type 0 where

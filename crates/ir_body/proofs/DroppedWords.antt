@@ -2,8 +2,8 @@
 use Rattle.std.proofs.Common.{◌≡◌, ℕ, Bool, true, false, List, [], ◌++◌, inl, inr}
 use Rattle.ir_text.specs.Tokens.{Lexeme}
 use Rattle.ir_text.specs.Mentions.{Mention, Mentioning, ◌⊙◌, silent}
-use Rattle.ir_text.specs.Operations.{SpellsFlag, dropped_word}
-use Rattle.ir_items.specs.Reading.{begins, is_keyword}
+use Rattle.ir_grammar.specs.Operations.{SpellsFlag, dropped_word}
+use Rattle.ir_parts.specs.Reading.{begins, is_keyword}
 use Rattle.ir_body.specs.Telling.{Telling, ◌>>=◌, silently}
 use Rattle.ir_body.specs.Flags.{flag_at}
 use Rattle.ir_body.proofs.Tellers.{IsTeller, silent_tells, each_tells, told_as}

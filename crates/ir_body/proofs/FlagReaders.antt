@@ -7,11 +7,11 @@ use Rattle.ir_text.specs.Tokens.{Lexeme}
 use Rattle.ir_text.specs.Types.{IsScalar, SpellsTypeOf}
 use Rattle.ir_text.specs.Listed.{word}
 use Rattle.ir_text.specs.Language.{Language, ◌·◌, ◌or◌, nothing, keyword}
-use Rattle.ir_text.specs.Operations.{FlagKind, Wraps, Exact, Disjoint, NoFlag, BinaryFlags, SpellsBinaryFlags, SpellsWraps, SpellsFlag}
-use Rattle.ir_items.specs.Reading.{begins, ◌>>=◌, is_keyword, keyword_at, choose, pure}
-use Rattle.ir_items.proofs.Readers.{StopsAt, IsReader, of_language, mapped, stops_at_all, stops_also}
-use Rattle.ir_items.proofs.SingleTokens.{is_itself, keyword_reads}
-use Rattle.ir_items.proofs.Combined.{stands_for, behind_token, not_at_first, pure_reads}
+use Rattle.ir_grammar.specs.Operations.{FlagKind, Wraps, Exact, Disjoint, NoFlag, BinaryFlags, SpellsBinaryFlags, SpellsWraps, SpellsFlag}
+use Rattle.ir_parts.specs.Reading.{begins, ◌>>=◌, is_keyword, keyword_at, choose, pure}
+use Rattle.ir_parts.proofs.Readers.{StopsAt, IsReader, of_language, mapped, stops_at_all, stops_also}
+use Rattle.ir_parts.proofs.SingleTokens.{is_itself, keyword_reads}
+use Rattle.ir_parts.proofs.Combined.{stands_for, behind_token, not_at_first, pure_reads}
 use Rattle.ir_body.specs.declared.flags.Flags.{Flags}
 use Rattle.ir_body.specs.Flags.{flag_at, wrap_flags, wraps_at, exact_at, disjoint_at, flags_of_kind_at}
 use Rattle.ir_body.proofs.Choices.{Chooses, chosen_by, of_stops, optional_reads}

@@ -5,7 +5,7 @@ use Rattle.ir_model.specs.declared.op.Op.TheVariants.{Icmp}
 use Rattle.ir_text.specs.Tokens.{Lexeme}
 use Rattle.ir_text.specs.Language.{◌·◌, keyword}
 use Rattle.ir_text.specs.Mentions.{Mention, Mentioning, ◌⊙◌, silent}
-use Rattle.ir_text.specs.Operations.{SpellsOp, SpellsTwo, the_word, dropped_word, pred_text}
+use Rattle.ir_grammar.specs.Operations.{SpellsOp, SpellsTwo, the_word, dropped_word, pred_text}
 use Rattle.ir_body.specs.declared.operands.Two.{Two}
 use Rattle.ir_body.specs.declared.operation.Operation.{Operation}
 use Rattle.ir_body.specs.Plain.{plain}

@@ -7,8 +7,8 @@ use Rattle.ir_model.specs.declared.op.BinOp.TheVariants as binary
 use Rattle.ir_model.specs.declared.op.CastOp.{CastOp}
 use Rattle.ir_model.specs.declared.op.CastOp.TheVariants as cast
 use Rattle.ir_text.specs.Language.{keyword}
-use Rattle.ir_text.specs.Operations.{binary_text}
-use Rattle.ir_items.proofs.Readers.{IsReader, Anything, either}
+use Rattle.ir_grammar.specs.Operations.{binary_text}
+use Rattle.ir_parts.proofs.Readers.{IsReader, Anything, either}
 use Rattle.ir_body.specs.declared.opcode.Opcode.{Opcode}
 use Rattle.ir_body.specs.declared.opcode.Opcode.TheVariants.{Binary, Cast, Icmp, Select, Phi, Freeze, Alloca, Load, Store, Gep, Tail, Notail, Call, Br, Switch, Ret, Unreachable}
 use Rattle.ir_body.specs.Opcodes.{binary_opcodes, value_opcodes, memory_opcodes, ending_opcodes, binary_opcode, value_opcode, memory_opcode, ending_opcode, opcode_of_text, may_have_result, fitting, opcode_of, opcode_at}

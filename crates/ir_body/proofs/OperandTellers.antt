@@ -17,10 +17,10 @@ use Rattle.ir_text.specs.Written.{Name, Text}
 use Rattle.ir_text.specs.Said.{said_local, said_global}
 use Rattle.ir_text.specs.Mentions as mention
 use Rattle.ir_text.specs.Mentions.{Mention, ◌⊙◌, silent}
-use Rattle.ir_text.specs.Operations.{SpellsOperand, SpellsTyped, SpellsPointer, SpellsBlockName, SpellsTarget, SpellsTwo, the_comma}
-use Rattle.ir_items.specs.Reading.{punctuation_at}
-use Rattle.ir_items.proofs.Readers.{Anything, of_language, one_reads}
-use Rattle.ir_items.proofs.TypeReaders.{scalar_types}
+use Rattle.ir_grammar.specs.Operations.{SpellsOperand, SpellsTyped, SpellsPointer, SpellsBlockName, SpellsTarget, SpellsTwo, the_comma}
+use Rattle.ir_parts.specs.Reading.{punctuation_at}
+use Rattle.ir_parts.proofs.Readers.{Anything, of_language, one_reads}
+use Rattle.ir_parts.proofs.TypeReaders.{scalar_types}
 use Rattle.ir_body.specs.declared.operands.Two.{Two}
 use Rattle.ir_body.specs.Telling.{give, ◌>>=◌, silently}
 use Rattle.ir_body.specs.Tables.{look_up}

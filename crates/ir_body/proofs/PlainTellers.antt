@@ -13,10 +13,10 @@ use Rattle.ir_text.specs.Tokens.{Lexeme}
 use Rattle.ir_text.specs.Listed.{word}
 use Rattle.ir_text.specs.Language.{keyword}
 use Rattle.ir_text.specs.Mentions.{Mention, Mentioning, ◌⊙◌, silent}
-use Rattle.ir_text.specs.Operations.{flag_kind, SpellsBinaryFlags, SpellsOperand, SpellsBlockName, SpellsTyped, SpellsTarget, SpellsTwo, the_word, the_comma, dropped_word, pred_text}
-use Rattle.ir_items.specs.Reading.{Read, punctuation_at, begins, is_keyword}
-use Rattle.ir_items.proofs.Readers.{IsReader, StopsAt, Anything, chosen, refused_there}
-use Rattle.ir_items.proofs.SingleTokens.{is_itself, is_word}
+use Rattle.ir_grammar.specs.Operations.{flag_kind, SpellsBinaryFlags, SpellsOperand, SpellsBlockName, SpellsTyped, SpellsTarget, SpellsTwo, the_word, the_comma, dropped_word, pred_text}
+use Rattle.ir_parts.specs.Reading.{Read, punctuation_at, begins, is_keyword}
+use Rattle.ir_parts.proofs.Readers.{IsReader, StopsAt, Anything, chosen, refused_there}
+use Rattle.ir_parts.proofs.SingleTokens.{is_itself, is_word}
 use Rattle.ir_body.specs.declared.operands.Two.{Two}
 use Rattle.ir_body.specs.declared.flags.Flags.{Flags}
 use Rattle.ir_body.specs.declared.operation.Operation.{Operation}

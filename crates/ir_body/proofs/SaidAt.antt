@@ -8,10 +8,10 @@ use Rattle.ir_text.specs.Said.{said_local}
 use Rattle.ir_text.specs.Mentions as mention
 use Rattle.ir_text.specs.Mentions.{Mention}
 use Rattle.ir_lex.specs.Tokenized.{Tokenized, lexemes}
-use Rattle.ir_items.specs.Reading.{left_from, first_given, ReadsAs}
-use Rattle.ir_items.specs.declared.fault.ItemFault.TheVariants.{CannotGoOn}
-use Rattle.ir_items.specs.Places.{said_at, mentions_at}
-use Rattle.ir_items.proofs.Places.{one_given, one_not_given}
+use Rattle.ir_parts.specs.Reading.{left_from, first_given, ReadsAs}
+use Rattle.ir_parts.specs.declared.fault.ItemFault.TheVariants.{CannotGoOn}
+use Rattle.ir_parts.specs.Places.{said_at, mentions_at}
+use Rattle.ir_parts.proofs.Places.{one_given, one_not_given}
 use Rattle.ir_body.specs.Operands.{told_block, block_name_at}
 use Rattle.ir_body.specs.Views.{bare_block_name, block_name_sites}
 

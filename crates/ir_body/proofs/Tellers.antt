@@ -4,9 +4,9 @@ use Rattle.std.proofs.lemmas.List.{append-nil}
 use Rattle.ir_text.specs.Tokens.{Lexeme}
 use Rattle.ir_text.specs.Language.{Language, ◌·◌, keyword, punctuation}
 use Rattle.ir_text.specs.Mentions.{Mention, Mentioning, ◌⊙◌, silent}
-use Rattle.ir_items.specs.Reading.{Read, keyword_at, punctuation_at}
-use Rattle.ir_items.proofs.Readers.{IsReader, StopsAt, Anything, of_language, mapped, followed, stops_at_all}
-use Rattle.ir_items.proofs.SingleTokens.{keyword_reads, sign_reads}
+use Rattle.ir_parts.specs.Reading.{Read, keyword_at, punctuation_at}
+use Rattle.ir_parts.proofs.Readers.{IsReader, StopsAt, Anything, of_language, mapped, followed, stops_at_all}
+use Rattle.ir_parts.proofs.SingleTokens.{keyword_reads, sign_reads}
 use Rattle.ir_body.specs.Telling.{Telling, give, behind, ◌>>=◌, silently}
 
 -- The reading is one of the language, with the mentions in each sentence.

@@ -3,7 +3,7 @@ use Rattle.std.proofs.Common.{◌≡◌, ℕ, List, [], ◌∷◌, ◌++◌, map
 use Rattle.std.proofs.lemmas.List.{append-nil, map-append}
 use Rattle.ir_text.specs.Sites.{Site}
 use Rattle.ir_lex.specs.Tokenized.{Tokenized}
-use Rattle.ir_items.specs.Places.{mentions_at, mention_at}
+use Rattle.ir_parts.specs.Places.{mentions_at, mention_at}
 
 pub mentions_append : (t : Tokenized) (a b : List Site) → mentions_at t (a ++ b) ≡ mentions_at t a ++ mentions_at t b
 mentions_append t a b = map-append (mention_at t) a b

@@ -10,11 +10,11 @@ use Rattle.ir_model.specs.declared.op.Op.TheVariants.{Cast, Select}
 use Rattle.ir_text.specs.Tokens.{Lexeme}
 use Rattle.ir_text.specs.Mentions.{Mention, Mentioning, ◌⊙◌, silent}
 use Rattle.ir_text.specs.Types.{IsScalar, SpellsTypeOf}
-use Rattle.ir_text.specs.Operations.{SpellsOperand, SpellsTyped, SpellsFlag, dropped_word, the_word, the_comma}
-use Rattle.ir_items.specs.Reading.{keyword_at, punctuation_at, begins, is_keyword}
-use Rattle.ir_items.specs.TypeReading.{scalar_type_at}
-use Rattle.ir_items.proofs.Readers.{Anything}
-use Rattle.ir_items.proofs.TypeReaders.{scalar_types}
+use Rattle.ir_grammar.specs.Operations.{SpellsOperand, SpellsTyped, SpellsFlag, dropped_word, the_word, the_comma}
+use Rattle.ir_parts.specs.Reading.{keyword_at, punctuation_at, begins, is_keyword}
+use Rattle.ir_parts.specs.TypeReading.{scalar_type_at}
+use Rattle.ir_parts.proofs.Readers.{Anything}
+use Rattle.ir_parts.proofs.TypeReaders.{scalar_types}
 use Rattle.ir_body.specs.declared.operation.Operation.{Operation}
 use Rattle.ir_body.specs.Telling.{give, ◌>>=◌, silently}
 use Rattle.ir_body.specs.Operands.{typed_at}

@@ -1,9 +1,9 @@
 -- A word is read where it stands first.
 use Rattle.std.proofs.Common.{◌≡◌, ℕ, ◌+◌, true, List, ap, ◌∙◌}
 use Rattle.ir_lex.specs.Tokenized.{Tokenized}
-use Rattle.ir_items.specs.Reading.{Read, go_on, ◌>>=◌, choose, begins, is_keyword, keyword_at, left_from}
-use Rattle.ir_items.proofs.Places.{token_passes}
-use Rattle.ir_items.proofs.Readers.{chosen_first}
+use Rattle.ir_parts.specs.Reading.{Read, go_on, ◌>>=◌, choose, begins, is_keyword, keyword_at, left_from}
+use Rattle.ir_parts.proofs.Places.{token_passes}
+use Rattle.ir_parts.proofs.Readers.{chosen_first}
 
 pub word_first : {A : Type 0} (t : Tokenized) (at : ℕ) (text : List ℕ) (next other : Read A)
     → begins (is_keyword text) (left_from t at) ≡ true

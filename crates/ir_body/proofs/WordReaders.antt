@@ -8,10 +8,10 @@ use Rattle.ir_text.specs.declared.token.TokenKind.TheVariants.{Word}
 use Rattle.ir_text.specs.Tokens.{Lexeme}
 use Rattle.ir_text.specs.Listed.{word}
 use Rattle.ir_text.specs.Language.{keyword}
-use Rattle.ir_text.specs.Operations.{pred_text}
-use Rattle.ir_items.specs.Reading.{one_at, is_word_kind}
-use Rattle.ir_items.proofs.Readers.{IsReader, Anything, either, of_language, one_reads}
-use Rattle.ir_items.proofs.SingleTokens.{word_kind, same_token}
+use Rattle.ir_grammar.specs.Operations.{pred_text}
+use Rattle.ir_parts.specs.Reading.{one_at, is_word_kind}
+use Rattle.ir_parts.proofs.Readers.{IsReader, Anything, either, of_language, one_reads}
+use Rattle.ir_parts.proofs.SingleTokens.{word_kind, same_token}
 use Rattle.ir_body.specs.Tables.{look_up}
 use Rattle.ir_body.specs.Opcodes.{predicates, predicate_of_text, predicate_of, predicate_at}
 

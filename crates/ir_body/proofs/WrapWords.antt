@@ -6,7 +6,7 @@ use Rattle.std.specs.Str.{bytes_eq}
 use Rattle.std.proofs.lemmas.Slice.Eq.{bytes_eq-Decides}
 use Rattle.ir_text.specs.Tokens.{Lexeme}
 use Rattle.ir_text.specs.Listed.{word}
-use Rattle.ir_text.specs.Operations.{IsFlag, SpellsWraps, SpellsFlag}
+use Rattle.ir_grammar.specs.Operations.{IsFlag, SpellsWraps, SpellsFlag}
 
 contains_parts : (x : List ℕ) (xs : List (List ℕ)) (y : List ℕ) → Contains (x ∷ xs) y → (x ≡ y) ⊎ Contains xs y
 contains_parts x xs y (zero, h, e) = inl e

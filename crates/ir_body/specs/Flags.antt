@@ -1,8 +1,8 @@
 -- Flags of operations.
 use Rattle.std.specs.Prelude.{ℕ, Bool, true, false, List, codes}
 use Rattle.ir_model.specs.declared.op.BinOp.{BinOp}
-use Rattle.ir_text.specs.Operations.{FlagKind, Wraps, Exact, Disjoint, NoFlag, flag_kind}
-use Rattle.ir_items.specs.Reading.{Read, pure, ◌>>=◌, choose, is_keyword, keyword_at}
+use Rattle.ir_grammar.specs.Operations.{FlagKind, Wraps, Exact, Disjoint, NoFlag, flag_kind}
+use Rattle.ir_parts.specs.Reading.{Read, pure, ◌>>=◌, choose, is_keyword, keyword_at}
 use Rattle.ir_body.specs.declared.flags.Flags.{Flags}
 
 -- whether the word stands there

@@ -6,7 +6,7 @@ use Rattle.scev_base.specs.declared.pred.Pred.TheVariants as pred
 use Rattle.ir_model.specs.declared.op.BinOp.TheVariants as binary
 use Rattle.ir_model.specs.declared.op.CastOp.TheVariants as cast
 use Rattle.ir_text.specs.Tokens.{Lexeme}
-use Rattle.ir_items.specs.Reading.{Read, one_at, is_word_kind}
+use Rattle.ir_parts.specs.Reading.{Read, one_at, is_word_kind}
 use Rattle.ir_body.specs.declared.opcode.Opcode.{Opcode}
 use Rattle.ir_body.specs.declared.opcode.Opcode.TheVariants.{Binary, Cast, Icmp, Select, Phi, Freeze, Alloca, Load, Store, Gep, Tail, Notail, Call, Br, Switch, Ret, Unreachable}
 use Rattle.ir_body.specs.Tables.{look_up}

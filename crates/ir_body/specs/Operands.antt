@@ -13,8 +13,8 @@ use Rattle.ir_text.specs.Written.{Name}
 use Rattle.ir_text.specs.Said.{said_local, said_global}
 use Rattle.ir_text.specs.Mentions.{Mention}
 use Rattle.ir_text.specs.Mentions as mention
-use Rattle.ir_items.specs.TypeReading.{scalar_type_at}
-use Rattle.ir_items.specs.Reading.{one_at, keyword_at, punctuation_at}
+use Rattle.ir_parts.specs.TypeReading.{scalar_type_at}
+use Rattle.ir_parts.specs.Reading.{one_at, keyword_at, punctuation_at}
 use Rattle.ir_body.specs.declared.operands.Two.{Two}
 use Rattle.ir_body.specs.Tables.{look_up}
 use Rattle.ir_body.specs.Telling.{Telling, give, ◌>>=◌, silently}

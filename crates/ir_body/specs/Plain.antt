@@ -6,7 +6,7 @@ use Rattle.ir_model.specs.declared.op.Operand.{Operand}
 use Rattle.ir_model.specs.declared.op.BinOp.{BinOp}
 use Rattle.ir_model.specs.declared.op.Op.{Op}
 use Rattle.ir_model.specs.declared.op.Op.TheVariants.{Binary, Icmp, Freeze, Jump, Branch, Ret}
-use Rattle.ir_items.specs.Reading.{is_keyword, choose, keyword_at, punctuation_at}
+use Rattle.ir_parts.specs.Reading.{is_keyword, choose, keyword_at, punctuation_at}
 use Rattle.ir_body.specs.declared.operands.Two.{Two}
 use Rattle.ir_body.specs.declared.flags.Flags.{Flags}
 use Rattle.ir_body.specs.declared.operation.Operation.{Operation}

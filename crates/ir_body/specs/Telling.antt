@@ -2,7 +2,7 @@
 use Rattle.std.specs.Prelude.{ℕ, List, [], ◌++◌, Result, Ok}
 use Rattle.ir_text.specs.Tokens.{Lexeme}
 use Rattle.ir_text.specs.Mentions.{Mention}
-use Rattle.ir_items.specs.Reading.{Read, go_on}
+use Rattle.ir_parts.specs.Reading.{Read, go_on}
 
 abbrev pub Telling : Type 0 → Type 0
 Telling X = Read (X × List Mention)

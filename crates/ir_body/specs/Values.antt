@@ -6,8 +6,8 @@ use Rattle.ir_model.specs.declared.op.CastOp.{CastOp}
 use Rattle.ir_model.specs.declared.op.CastOp.TheVariants as cast
 use Rattle.ir_model.specs.declared.op.TypedOperand.{TypedOperand}
 use Rattle.ir_model.specs.declared.op.Op.TheVariants.{Cast, Select}
-use Rattle.ir_items.specs.Reading.{keyword_at, punctuation_at}
-use Rattle.ir_items.specs.TypeReading.{scalar_type_at}
+use Rattle.ir_parts.specs.Reading.{keyword_at, punctuation_at}
+use Rattle.ir_parts.specs.TypeReading.{scalar_type_at}
 use Rattle.ir_body.specs.declared.operation.Operation.{Operation}
 use Rattle.ir_body.specs.Telling.{Telling, give, ◌>>=◌, silently}
 use Rattle.ir_body.specs.Operands.{operand_at, typed_at}

@@ -1,8 +1,8 @@
 //! Operations of two operands, comparisons and `freeze`, from behind their opcode.
 
 ghost use Rattle.std.specs.Prelude.{◌≡◌, ◌<◌, ◌≤◌, length, IfOk};
-ghost use Rattle.ir_items.specs.Reading.{left_from, ReadsAs};
-ghost use Rattle.ir_items.specs.Places.{mentions_at};
+ghost use Rattle.ir_parts.specs.Reading.{left_from, ReadsAs};
+ghost use Rattle.ir_parts.specs.Places.{mentions_at};
 ghost use Rattle.ir_body.specs.Plain.{binary_parts_at, binary_at, comparison_parts_at, comparison_at, freeze_at};
 ghost use Rattle.ir_body.specs.Views.{bare_operation, operation_sites};
 
@@ -10,7 +10,7 @@ use crate::flags::{read_flag, read_flags};
 use crate::opcode::read_predicate;
 use crate::operands::{read_two, read_typed};
 use crate::operation::Operation;
-use ir_items::ItemFault;
+use ir_parts::ItemFault;
 use ir_lex::Tokens;
 use ir_model::{BinOp, Op};
 use sqlite_items::Items;

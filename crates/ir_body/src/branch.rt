@@ -1,14 +1,14 @@
 //! Branches and returns, from behind their opcode.
 
 ghost use Rattle.std.specs.Prelude.{◌≡◌, ◌<◌, ◌≤◌, length, IfOk};
-ghost use Rattle.ir_items.specs.Reading.{left_from, ReadsAs};
-ghost use Rattle.ir_items.specs.Places.{mentions_at};
+ghost use Rattle.ir_parts.specs.Reading.{left_from, ReadsAs};
+ghost use Rattle.ir_parts.specs.Places.{mentions_at};
 ghost use Rattle.ir_body.specs.Plain.{jump_at, branch_parts_at, branch_at, br_at, nothing_returned_at, value_returned_at, ret_at};
 ghost use Rattle.ir_body.specs.Views.{bare_operation, operation_sites};
 
 use crate::operands::{read_operand, read_target, read_typed};
 use crate::operation::Operation;
-use ir_items::{ItemFault, behind_keyword, behind_sign, starts_keyword};
+use ir_parts::{ItemFault, behind_keyword, behind_sign, starts_keyword};
 use ir_lex::Tokens;
 use ir_model::Op;
 use sqlite_items::Items;

@@ -1,10 +1,10 @@
 //! Flags of operations.
 
 ghost use Rattle.std.specs.Prelude.{◌≡◌, ◌≤◌, length, Ok};
-ghost use Rattle.ir_items.specs.Reading.{left_from};
+ghost use Rattle.ir_parts.specs.Reading.{left_from};
 ghost use Rattle.ir_body.specs.Flags.{flag_at, wraps_at, exact_at, disjoint_at, flags_at};
 
-use ir_items::starts_keyword;
+use ir_parts::starts_keyword;
 use ir_lex::Tokens;
 use ir_model::BinOp;
 

@@ -1,10 +1,10 @@
 //! The words that instructions begin with.
 
 ghost use Rattle.std.specs.Prelude.{◌≡◌, ◌+◌, ◌^◌, ◌<◌, ◌≤◌, length, IfOk, IfSome};
-ghost use Rattle.ir_items.specs.Reading.{left_from, first_given, Reads};
+ghost use Rattle.ir_parts.specs.Reading.{left_from, first_given, Reads};
 ghost use Rattle.ir_body.specs.Opcodes.{binary_opcode, value_opcode, memory_opcode, ending_opcode, opcode_of_text, opcode_of, opcode_at, fitting, may_have_result, predicate_of_text, predicate_of, predicate_at};
 
-use ir_items::{ItemFault, next};
+use ir_parts::{ItemFault, next};
 use ir_lex::{TokenKind, Tokens};
 use ir_model::{BinOp, CastOp};
 use scev_base::Pred;

@@ -3,17 +3,17 @@
 ghost use Rattle.std.specs.Prelude.{◌≡◌, ◌+◌, ◌^◌, ◌<◌, ◌≤◌, length, IfOk, IfErr, IfSome, IsTrue, Some, None, if◌then◌else◌};
 ghost use Rattle.std.specs.Option.{is_some, option_map};
 ghost use Rattle.std.specs.Str.Parse.{signed_digits_value};
-ghost use Rattle.ir_items.specs.declared.fault.ItemFault.TheVariants.{OutOfMemory};
+ghost use Rattle.ir_parts.specs.declared.fault.ItemFault.TheVariants.{OutOfMemory};
 ghost use Rattle.ir_text.specs.Said.{said_local, said_global};
 ghost use Rattle.ir_text.specs.declared.token.TokenKind.TheVariants.{Local, Global};
 ghost use Rattle.ir_text.specs.Sites.{operand_sites, typed_sites, bare_operand, bare_typed};
-ghost use Rattle.ir_items.specs.Reading.{left_from, first_given, Reads, ReadsAs};
-ghost use Rattle.ir_items.specs.Places.{mentions_at};
+ghost use Rattle.ir_parts.specs.Reading.{left_from, first_given, Reads, ReadsAs};
+ghost use Rattle.ir_parts.specs.Places.{mentions_at};
 ghost use Rattle.ir_body.specs.Operands.{operand_of, word_operand, operand_at, typed_at, pointer_at, block_name_at, target_at, two_at};
 ghost use Rattle.ir_body.specs.Views.{bare_two, two_sites, bare_block_name, block_name_sites};
 
 use crate::names::{is_global, is_local, is_signed_number};
-use ir_items::{ItemFault, behind_keyword, behind_sign, next, read_scalar_type};
+use ir_parts::{ItemFault, behind_keyword, behind_sign, next, read_scalar_type};
 use ir_lex::{TokenKind, Tokens, signed_value};
 use ir_model::{IrType, Operand, TypedOperand};
 use scev_base::{BlockId, ValueId};

@@ -1,15 +1,15 @@
 //! Conversions and choices, from behind their opcode.
 
 ghost use Rattle.std.specs.Prelude.{◌≡◌, ◌<◌, ◌≤◌, length, IfOk};
-ghost use Rattle.ir_items.specs.Reading.{left_from, ReadsAs};
-ghost use Rattle.ir_items.specs.Places.{mentions_at};
+ghost use Rattle.ir_parts.specs.Reading.{left_from, ReadsAs};
+ghost use Rattle.ir_parts.specs.Places.{mentions_at};
 ghost use Rattle.ir_body.specs.Values.{converted_parts_at, converted_at, zext_at, trunc_at, cast_at, select_parts_at, select_at};
 ghost use Rattle.ir_body.specs.Views.{bare_operation, operation_sites};
 
 use crate::flags::read_flag;
 use crate::operands::{read_operand, read_typed};
 use crate::operation::Operation;
-use ir_items::{ItemFault, behind_keyword, behind_sign, read_scalar_type};
+use ir_parts::{ItemFault, behind_keyword, behind_sign, read_scalar_type};
 use ir_lex::Tokens;
 use ir_model::{CastOp, Op};
 use sqlite_items::Items;

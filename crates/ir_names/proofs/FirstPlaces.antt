@@ -8,7 +8,7 @@ use Rattle.std.proofs.lemmas.List.{map-append, append_assoc}
 use Rattle.std.proofs.lemmas.List.Folds.{list_any-append}
 use Rattle.std.proofs.lemmas.Option.{none-some, same_Some, slice_get-map}
 use Rattle.std.proofs.lemmas.Slice.Eq.{bytes_eq-Decides}
-use Rattle.ir_text.specs.Numbering.{IsFirstPlace}
+use Rattle.ir_grammar.specs.Numbering.{IsFirstPlace}
 use Rattle.ir_names.specs.Growing.{with_name}
 use Rattle.ir_names.specs.Firsts.{AreFirstPlaces}
 use Rattle.ir_names.proofs.Growing.{kept_first}

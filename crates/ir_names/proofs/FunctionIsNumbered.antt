@@ -6,9 +6,9 @@ use Rattle.ir_model.specs.Defined.{HasTypes}
 use Rattle.ir_text.specs.Written.{Name}
 use Rattle.ir_text.specs.Mentions.{Mention}
 use Rattle.ir_text.specs.Sites.{function_sites, bare_function}
-use Rattle.ir_text.specs.Numbering.{tables_of, named, value_names, label_names, same_name, first_occurrences, text_of_name, StandsFor, EachMatches}
+use Rattle.ir_grammar.specs.Numbering.{tables_of, named, value_names, label_names, same_name, first_occurrences, text_of_name, StandsFor, EachMatches}
 use Rattle.ir_lex.specs.Tokenized.{Tokenized}
-use Rattle.ir_items.specs.Places.{mentions_at}
+use Rattle.ir_parts.specs.Places.{mentions_at}
 use Rattle.ir_names.specs.declared.seen.Seen.{Seen}
 use Rattle.ir_names.specs.Growing.{with_names, IsPrefix}
 use Rattle.ir_names.specs.Renumbered.{Becomes}

@@ -4,7 +4,7 @@ use Rattle.std.specs.List.{list_any, filter}
 use Rattle.std.proofs.lemmas.List.{append-nil, append_assoc}
 use Rattle.std.proofs.lemmas.List.Folds.{list_any-append}
 use Rattle.std.proofs.lemmas.Option.{none-some, slice_get_within}
-use Rattle.ir_text.specs.Numbering.{first_occurrences, IsFirstPlace}
+use Rattle.ir_grammar.specs.Numbering.{first_occurrences, IsFirstPlace}
 use Rattle.ir_names.specs.Growing.{with_name, with_names, IsPrefix}
 
 module _ {A : Type 0} where

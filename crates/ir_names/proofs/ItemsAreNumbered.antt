@@ -7,11 +7,10 @@ use Rattle.std.proofs.lemmas.Slice.Eq.{bytes_eq-Decides}
 use Rattle.ir_model.specs.declared.function.Function.{Function}
 use Rattle.ir_model.specs.declared.item.Item.{Item}
 use Rattle.ir_model.specs.declared.item.Item.TheVariants as item
-use Rattle.ir_text.specs.Items.{Draft}
-use Rattle.ir_text.specs.Sites.{without_ids}
-use Rattle.ir_text.specs.Numbering.{global_names, used_globals, defined_by, defined_globals, IsNumberedItem, IsNumberedModule, EachMatches}
+use Rattle.ir_text.specs.Sites.{Draft, without_ids}
+use Rattle.ir_grammar.specs.Numbering.{global_names, used_globals, defined_by, defined_globals, IsNumberedItem, IsNumberedModule, EachMatches}
 use Rattle.ir_lex.specs.Tokenized.{Tokenized}
-use Rattle.ir_items.specs.Places.{draft_of}
+use Rattle.ir_parts.specs.Places.{draft_of}
 use Rattle.ir_names.specs.Growing.{with_names, IsPrefix}
 use Rattle.ir_names.specs.Whole.{FunctionNumbered, ItemNumbered, ItemsNumbered}
 use Rattle.ir_names.proofs.Growing.{IsPrefix-refl, IsPrefix-trans, with_names-prefix, with_names-append, with_names_are, first_occurrences-filter}

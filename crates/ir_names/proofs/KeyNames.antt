@@ -7,7 +7,7 @@ use Rattle.std.proofs.lemmas.List.{map-append}
 use Rattle.std.proofs.lemmas.Option.{slice_get-map}
 use Rattle.std.proofs.lemmas.Slice.Eq.{bytes_eq-Decides}
 use Rattle.ir_text.specs.Written.{Name, Text, Number}
-use Rattle.ir_text.specs.Numbering.{same_name, text_of_name}
+use Rattle.ir_grammar.specs.Numbering.{same_name, text_of_name}
 use Rattle.ir_names.specs.declared.key.Key.{Key}
 use Rattle.ir_names.specs.declared.key.Key.TheVariants as key
 use Rattle.ir_names.specs.contracts.key.KeyPartialEq.TheImpl.{eq-value}

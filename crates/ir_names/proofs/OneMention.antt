@@ -5,9 +5,9 @@ use Rattle.ir_text.specs.Written.{Name, Text}
 use Rattle.ir_text.specs.Said.{said_local, said_label, said_global}
 use Rattle.ir_text.specs.Sites.{Site}
 use Rattle.ir_text.specs.Sites as site
-use Rattle.ir_text.specs.Numbering.{next_after, or_next, same_name, IsFirstPlace}
+use Rattle.ir_grammar.specs.Numbering.{next_after, or_next, same_name, IsFirstPlace}
 use Rattle.ir_lex.specs.Tokenized.{Tokenized}
-use Rattle.ir_items.specs.Places.{said_at}
+use Rattle.ir_parts.specs.Places.{said_at}
 use Rattle.ir_names.specs.declared.seen.Seen.{Seen}
 use Rattle.ir_names.specs.Growing.{with_name}
 use Rattle.ir_names.specs.Renumbered.{Becomes}

@@ -4,9 +4,9 @@ use Rattle.std.specs.Str.{bytes_eq}
 use Rattle.ir_text.specs.Mentions.{Mention}
 use Rattle.ir_text.specs.Mentions as mention
 use Rattle.ir_text.specs.Sites.{Site}
-use Rattle.ir_text.specs.Numbering.{Tables, named, next_after, or_next, value_names, label_names, global_names, same_name, StandsFor, EachMatches}
+use Rattle.ir_grammar.specs.Numbering.{Tables, named, next_after, or_next, value_names, label_names, global_names, same_name, StandsFor, EachMatches}
 use Rattle.ir_lex.specs.Tokenized.{Tokenized}
-use Rattle.ir_items.specs.Places.{mentions_at}
+use Rattle.ir_parts.specs.Places.{mentions_at}
 use Rattle.ir_names.specs.declared.seen.Seen.{Seen}
 use Rattle.ir_names.specs.Growing.{with_names, IsPrefix}
 

@@ -2,7 +2,7 @@
 
 ghost use Rattle.std.specs.Prelude.{◌≡◌, [], Some, map, length, unwrap_or, IfOk};
 ghost use Rattle.ir_model.specs.declared.types.IrType.TheVariants.{Void};
-ghost use Rattle.ir_text.specs.Numbering.{text_of_name};
+ghost use Rattle.ir_grammar.specs.Numbering.{text_of_name};
 ghost use Rattle.ir_names.specs.Keys.{name_of_key};
 ghost use Rattle.ir_names.specs.Whole.{FunctionNumbered};
 

@@ -2,7 +2,7 @@
 
 ghost use Rattle.std.specs.Prelude.{◌≡◌, ℕ, List, [], ◌∷◌, ◌++◌, length, map, Some, IfOk, OnOk};
 ghost use Rattle.std.specs.Str.{bytes_eq};
-ghost use Rattle.ir_text.specs.Numbering.{IsFirstPlace};
+ghost use Rattle.ir_grammar.specs.Numbering.{IsFirstPlace};
 ghost use Rattle.ir_names.specs.Growing.{with_name};
 ghost use Rattle.ir_names.specs.Firsts.{AreFirstPlaces};
 

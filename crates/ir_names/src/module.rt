@@ -2,9 +2,9 @@
 
 ghost use Rattle.std.specs.Prelude.{◌≡◌, [], ◌∷◌, map, IfOk};
 ghost use Rattle.std.specs.List.{flat_map};
-ghost use Rattle.ir_text.specs.Numbering.{defined_by, IsNumberedModule};
+ghost use Rattle.ir_grammar.specs.Numbering.{defined_by, IsNumberedModule};
 ghost use Rattle.ir_lex.specs.Tokenized.{lexemes};
-ghost use Rattle.ir_items.specs.Places.{draft_of};
+ghost use Rattle.ir_parts.specs.Places.{draft_of};
 ghost use Rattle.ir_names.specs.Meant.{meant_of};
 ghost use Rattle.ir_names.specs.Whole.{ItemNumbered, ItemsNumbered};
 

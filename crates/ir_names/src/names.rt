@@ -1,7 +1,7 @@
 //! Names in order of their first occurrence.
 
 ghost use Rattle.std.specs.Prelude.{◌≡◌, [], Some, map, slice_get, IfOk};
-ghost use Rattle.ir_text.specs.Numbering.{same_name};
+ghost use Rattle.ir_grammar.specs.Numbering.{same_name};
 ghost use Rattle.ir_names.specs.Keys.{name_of_key};
 ghost use Rattle.ir_names.specs.Growing.{with_name, IsPrefix};
 

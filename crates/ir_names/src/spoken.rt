@@ -4,7 +4,7 @@ ghost use Rattle.std.specs.Prelude.{◌≡◌, ◌-◌, ◌<◌, map, IfOk, slic
 ghost use Rattle.std.specs.Option.{option_map, option_copied};
 ghost use Rattle.ir_text.specs.Said.{said_local, said_label, said_global, is_local_kind, is_label_kind, is_global_kind};
 ghost use Rattle.ir_lex.specs.Tokenized.{lexemes};
-ghost use Rattle.ir_items.specs.Places.{said_at};
+ghost use Rattle.ir_parts.specs.Places.{said_at};
 ghost use Rattle.ir_names.specs.Keys.{name_of_key};
 ghost use Rattle.ir_names.specs.Meant.{meant_of, written_of};
 

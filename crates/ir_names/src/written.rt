@@ -12,7 +12,7 @@ ghost use Rattle.ir_names.specs.Keys.{name_of_key};
 ghost use Rattle.ir_names.specs.Meant.{meant, has_escape};
 
 use crate::key::Key;
-use ir_items::{inner_text, is_number, is_string_text};
+use ir_parts::{inner_text, is_number, is_string_text};
 use ir_lex::unsigned_value;
 use ir_model::Text;
 use ir_text::is_word;

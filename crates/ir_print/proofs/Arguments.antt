@@ -2,7 +2,7 @@
 use Rattle.std.proofs.Common.{◌≡◌, ℕ, zero, suc, ◌+◌, ◌<◌, List, [], ◌∷◌, ◌++◌, ◌≤◌, length, drop, get_or, codes, refl, sym, ap, ◌∙◌, arith}
 use Rattle.std.proofs.lemmas.List.{append-nil, append_assoc, drop_more, drop_all, drop-drop}
 use Rattle.ir_model.specs.declared.op.TypedOperand.{TypedOperand}
-use Rattle.ir_text.specs.Printing.{Shown, words_at, argument_text, arguments_text}
+use Rattle.ir_grammar.specs.Printing.{Shown, words_at, argument_text, arguments_text}
 
 abbrev pub others_text : Shown → List (List ℕ) → List TypedOperand → List ℕ
 others_text shown words [] = []

@@ -2,7 +2,7 @@
 use Rattle.std.proofs.Common.{◌≡◌, ℕ, suc, ◌+◌, List, [], ◌∷◌, ◌++◌, length, replicate, codes, decimal, append_assoc, sym, ap, ◌∙◌, arith}
 use Rattle.std.specs.List.{flat_map}
 use Rattle.std.proofs.lemmas.List.{append-nil, replicate_more}
-use Rattle.ir_text.specs.Printing.{elements_text}
+use Rattle.ir_grammar.specs.Printing.{elements_text}
 
 abbrev pub opened : ℕ → List ℕ
 opened d = codes "[" ++ (decimal d ++ codes " x ")

@@ -2,7 +2,7 @@
 use Rattle.std.proofs.Common.{◌≡◌, ℕ, ◌≤◌, length, take, List, [], ◌∷◌, ◌++◌, ◌∙◌, sym, append_assoc}
 use Rattle.std.specs.List.{flat_map}
 use Rattle.std.proofs.lemmas.List.{append-nil, take_all}
-use Rattle.ir_text.specs.Printing.{joined}
+use Rattle.ir_grammar.specs.Printing.{joined}
 
 -- the first piece, and each other one behind a separator
 pub joined-cons : {A : Type 0} (text : A → List ℕ) (between : List ℕ) (x : A) (xs : List A)

@@ -8,7 +8,7 @@ use Rattle.ir_model.specs.declared.item.Init.TheVariants as init
 use Rattle.ir_model.specs.declared.item.InitPart.{InitPart}
 use Rattle.ir_model.specs.declared.item.Init.TheBlock.{shown-the_row-Init-0}
 use denote.Hole.Carrier.{shown}
-use Rattle.ir_text.specs.Printing.{joined, type_text, init_text, parts_text, others_text}
+use Rattle.ir_grammar.specs.Printing.{joined, type_text, init_text, parts_text, others_text}
 use Rattle.ir_print.specs.Parts.{part_line}
 use Rattle.ir_print.proofs.Joined.{joined-cons}
 

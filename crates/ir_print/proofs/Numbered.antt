@@ -10,8 +10,8 @@ use Rattle.std.proofs.lemmas.Bool.Decides.{nat_tests}
 use Rattle.ir_model.specs.declared.function.ValueInfo.{ValueInfo}
 use Rattle.ir_model.specs.declared.function.Function.{Function}
 use Rattle.ir_text.specs.Sites.{Site, DefinesValue, UsesValue, DefinesBlock, UsesBlock, UsesGlobal, function_sites}
-use Rattle.ir_text.specs.Numbering.{first_occurrences}
-use Rattle.ir_text.specs.Printing.{Thing, Value, Block_, same_thing, is_unnamed, defined_things, used_things, unnamed_things, number_of, named_value, named_block, text_or_number, Shown, shown_in}
+use Rattle.ir_grammar.specs.Numbering.{first_occurrences}
+use Rattle.ir_grammar.specs.Printing.{Thing, Value, Block_, same_thing, is_unnamed, defined_things, used_things, unnamed_things, number_of, named_value, named_block, text_or_number, Shown, shown_in}
 use Rattle.ir_print.specs.declared.numbers.Numbers.{Numbers}
 use Rattle.ir_print.specs.Counting.{IsInTable, HasIds, start_of, start, is_missing, counted_value, counted_block, counted}
 use Rattle.ir_print.specs.Shown.{number_or_next}

@@ -8,7 +8,7 @@ use Rattle.std.proofs.lemmas.List.Folds.{list_all-append}
 use Rattle.ir_text.specs.Bytes.{is_no_quote}
 use Rattle.ir_text.specs.Names.{is_word}
 use Rattle.ir_text.specs.Written.{Text, unescaped, IsQuoted, Says, SaysGlobal}
-use Rattle.ir_text.specs.Printing.{hex_digit, escaped, quoted, name_text}
+use Rattle.ir_grammar.specs.Printing.{hex_digit, escaped, quoted, name_text}
 use Rattle.ir_print.proofs.Seen.{tested}
 
 -- Each number of a list is a byte.

@@ -4,7 +4,7 @@ use Rattle.std.specs.List.{filter, prefix_len}
 use Rattle.std.proofs.lemmas.List.{append-nil}
 use Rattle.std.proofs.lemmas.List.Elements.{filter-append}
 use Rattle.std.proofs.lemmas.Bool.{false≢true}
-use Rattle.ir_text.specs.Numbering.{first_occurrences}
+use Rattle.ir_grammar.specs.Numbering.{first_occurrences}
 
 -- a test is passed or failed
 pub tested : (b : Bool) → (b ≡ true) ⊎ (b ≡ false)

@@ -1,7 +1,7 @@
 -- The text of a part of an array's initialiser.
 use Rattle.std.specs.Prelude.{ℕ, List, ◌∷◌, ◌++◌}
 use Rattle.ir_model.specs.declared.item.InitPart.{InitPart}
-use Rattle.ir_text.specs.Printing.{type_text, init_text}
+use Rattle.ir_grammar.specs.Printing.{type_text, init_text}
 
 -- its type, and its initialiser
 abbrev pub part_line : InitPart → List ℕ

@@ -1,6 +1,6 @@
 -- What is shown of the values and blocks of a function, by the numbers that were counted for it.
 use Rattle.std.specs.Prelude.{ℕ, Option, Some, None, slice_get}
-use Rattle.ir_text.specs.Printing.{Shown, text_or_number, named_value, named_block}
+use Rattle.ir_grammar.specs.Printing.{Shown, text_or_number, named_value, named_block}
 use Rattle.ir_print.specs.declared.shown.Names.{Names}
 
 -- the number in a table, and what has none gets the next one

@@ -1,8 +1,8 @@
 //! Operations of two operands, and comparisons.
 
 ghost use Rattle.std.specs.Prelude.{◌≡◌, [], ◌∷◌, ◌++◌, codes, OnOk};
-ghost use Rattle.ir_text.specs.Operations.{binary_text, pred_text};
-ghost use Rattle.ir_text.specs.Printing.{flag_word, op_text};
+ghost use Rattle.ir_grammar.specs.Operations.{binary_text, pred_text};
+ghost use Rattle.ir_grammar.specs.Printing.{flag_word, op_text};
 ghost use Rattle.ir_print.specs.Kinds.{OfTwo, kind_of};
 ghost use Rattle.ir_print.specs.Shown.{shown};
 
@@ -71,7 +71,7 @@ fn push_flags(
 }
 
 /// Appends an operation of two operands, or a comparison.
-#[tactic(auto, unfolding(ir_text::specs::Printing::op_text))]
+#[tactic(auto, unfolding(ir_grammar::specs::Printing::op_text))]
 pub fn push_of_two(out: &mut Vec<u8>, names: &Names<'_>, op: &Op) -> Result<(), AllocError>
     requires { kind_of op.now ≡ OfTwo }
     ensures { OnOk result (out.new.items ≡ out.old.items ++ op_text (shown names.now) op.now []) }

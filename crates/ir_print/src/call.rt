@@ -2,7 +2,7 @@
 
 ghost use Rattle.std.specs.Prelude.{◌≡◌, ◌++◌, codes, drop, OnOk};
 ghost use Rattle.ir_model.specs.declared.op.Op.TheVariants.{Call};
-ghost use Rattle.ir_text.specs.Printing.{argument_text, arguments_text, before_space, name_text, op_text, type_text, words_at};
+ghost use Rattle.ir_grammar.specs.Printing.{argument_text, arguments_text, before_space, name_text, op_text, type_text, words_at};
 ghost use Rattle.ir_print.specs.Shown.{shown};
 
 use crate::names::push_text_name;
@@ -73,7 +73,7 @@ fn push_callee(
 }
 
 /// Appends a call.
-#[tactic(auto, unfolding(ir_text::specs::Printing::op_text))]
+#[tactic(auto, unfolding(ir_grammar::specs::Printing::op_text))]
 pub fn push_call(
     out: &mut Vec<u8>,
     names: &Names<'_>,

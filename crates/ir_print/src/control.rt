@@ -2,7 +2,7 @@
 
 ghost use Rattle.std.specs.Prelude.{◌≡◌, [], ◌∷◌, ◌++◌, codes, OnOk};
 ghost use Rattle.std.specs.List.{flat_map};
-ghost use Rattle.ir_text.specs.Printing.{case_text, op_text};
+ghost use Rattle.ir_grammar.specs.Printing.{case_text, op_text};
 ghost use Rattle.ir_print.specs.Kinds.{OfControl, kind_of};
 ghost use Rattle.ir_print.specs.Shown.{shown};
 
@@ -38,7 +38,7 @@ fn push_cases(out: &mut Vec<u8>, names: &Names<'_>, cases: &[Case]) -> Result<()
 }
 
 /// Appends what ends a block.
-#[tactic(auto, unfolding(ir_text::specs::Printing::op_text))]
+#[tactic(auto, unfolding(ir_grammar::specs::Printing::op_text))]
 pub fn push_control(out: &mut Vec<u8>, names: &Names<'_>, op: &Op) -> Result<(), AllocError>
     requires { kind_of op.now ≡ OfControl }
     ensures { OnOk result (out.new.items ≡ out.old.items ++ op_text (shown names.now) op.now []) }

@@ -2,7 +2,7 @@
 
 ghost use Rattle.std.specs.Prelude.{◌≡◌, ◌++◌, codes, OnOk};
 ghost use Rattle.std.specs.List.{flat_map};
-ghost use Rattle.ir_text.specs.Printing.{joined, block_lines, param_text, function_text, before_space, name_text, type_text, words_at};
+ghost use Rattle.ir_grammar.specs.Printing.{joined, block_lines, param_text, function_text, before_space, name_text, type_text, words_at};
 ghost use Rattle.ir_print.specs.Counting.{HasIds};
 ghost use Rattle.ir_print.specs.Shown.{shown};
 
@@ -80,7 +80,7 @@ fn push_head(out: &mut Vec<u8>, function: &Function) -> Result<(), AllocError>
 }
 
 /// Appends a function's lines, with the names of the module's globals.
-#[tactic(auto, unfolding(ir_text::specs::Printing::function_text))]
+#[tactic(auto, unfolding(ir_grammar::specs::Printing::function_text))]
 pub fn push_function(
     alloc: Global,
     out: &mut Vec<u8>,

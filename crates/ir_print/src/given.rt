@@ -1,7 +1,7 @@
 //! Conversions, choices of a value, and `freeze`.
 
 ghost use Rattle.std.specs.Prelude.{◌≡◌, [], ◌∷◌, ◌++◌, codes, OnOk};
-ghost use Rattle.ir_text.specs.Printing.{cast_text, entry_text, joined, op_text};
+ghost use Rattle.ir_grammar.specs.Printing.{cast_text, entry_text, joined, op_text};
 ghost use Rattle.ir_print.specs.Kinds.{Given, kind_of};
 ghost use Rattle.ir_print.specs.Shown.{shown};
 
@@ -64,7 +64,7 @@ fn push_entries(
 }
 
 /// Appends a conversion, `select`, `phi` or `freeze`.
-#[tactic(auto, unfolding(ir_text::specs::Printing::op_text))]
+#[tactic(auto, unfolding(ir_grammar::specs::Printing::op_text))]
 pub fn push_given(out: &mut Vec<u8>, names: &Names<'_>, op: &Op) -> Result<(), AllocError>
     requires { kind_of op.now ≡ Given }
     ensures { OnOk result (out.new.items ≡ out.old.items ++ op_text (shown names.now) op.now []) }

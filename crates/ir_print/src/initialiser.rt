@@ -1,7 +1,7 @@
 //! What a global holds at the start.
 
 ghost use Rattle.std.specs.Prelude.{◌≡◌, ◌++◌, codes, OnOk};
-ghost use Rattle.ir_text.specs.Printing.{joined, literal_text, init_text, initialiser_text};
+ghost use Rattle.ir_grammar.specs.Printing.{joined, literal_text, init_text, initialiser_text};
 ghost use Rattle.ir_print.specs.Parts.{part_line};
 
 use crate::names::{push_quoted, push_text_name};

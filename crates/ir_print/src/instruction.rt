@@ -1,7 +1,7 @@
 //! Instructions.
 
 ghost use Rattle.std.specs.Prelude.{◌≡◌, ◌++◌, OnOk};
-ghost use Rattle.ir_text.specs.Printing.{op_text, result_text, instr_text};
+ghost use Rattle.ir_grammar.specs.Printing.{op_text, result_text, instr_text};
 ghost use Rattle.ir_print.specs.Shown.{shown};
 
 use crate::binary::push_of_two;
@@ -15,7 +15,7 @@ use scev_base::ValueId;
 use std::alloc::AllocError;
 
 /// Appends an operation with its passed-on words.
-#[tactic(auto, unfolding(ir_text::specs::Printing::op_text))]
+#[tactic(auto, unfolding(ir_grammar::specs::Printing::op_text))]
 fn push_op(out: &mut Vec<u8>, names: &Names<'_>, op: &Op, words: &[Text]) -> Result<(), AllocError>
     ensures { OnOk result (out.new.items ≡ out.old.items ++ op_text (shown names.now) op.now words.now) }
 {

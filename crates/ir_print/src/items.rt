@@ -2,7 +2,7 @@
 
 ghost use Rattle.std.specs.Prelude.{◌≡◌, ◌∷◌, ◌++◌, codes, if◌then◌else◌, OnOk};
 ghost use Rattle.std.specs.List.{flat_map};
-ghost use Rattle.ir_text.specs.Printing.{before_space, behind_space, name_text, type_text, global_text, joined, declared_text, declare_text, item_text};
+ghost use Rattle.ir_grammar.specs.Printing.{before_space, behind_space, name_text, type_text, global_text, joined, declared_text, declare_text, item_text};
 ghost use Rattle.ir_print.specs.Counting.{ItemHasIds};
 
 use crate::function::push_function;

@@ -3,7 +3,7 @@
 ghost use Rattle.std.specs.Prelude.{◌≡◌, [], ◌++◌, codes, OnOk};
 ghost use Rattle.std.specs.List.{flat_map};
 ghost use Rattle.ir_model.specs.declared.op.Op.TheVariants.{Gep};
-ghost use Rattle.ir_text.specs.Printing.{typed_text, op_text};
+ghost use Rattle.ir_grammar.specs.Printing.{typed_text, op_text};
 ghost use Rattle.ir_print.specs.Kinds.{OfMemory, kind_of};
 ghost use Rattle.ir_print.specs.Shown.{shown};
 
@@ -31,7 +31,7 @@ fn push_indices(
 }
 
 /// Appends `getelementptr`.
-#[tactic(auto, unfolding(ir_text::specs::Printing::op_text))]
+#[tactic(auto, unfolding(ir_grammar::specs::Printing::op_text))]
 fn push_gep(
     out: &mut Vec<u8>,
     names: &Names<'_>,
@@ -52,7 +52,7 @@ fn push_gep(
 }
 
 /// Appends `alloca`, `load`, `store` or `getelementptr`.
-#[tactic(auto, unfolding(ir_text::specs::Printing::op_text))]
+#[tactic(auto, unfolding(ir_grammar::specs::Printing::op_text))]
 pub fn push_of_memory(
     out: &mut Vec<u8>,
     names: &Names<'_>,

@@ -1,7 +1,7 @@
 //! The printed text of a module.
 
 ghost use Rattle.std.specs.Prelude.{◌≡◌, IfOk};
-ghost use Rattle.ir_text.specs.Printing.{module_text};
+ghost use Rattle.ir_grammar.specs.Printing.{module_text};
 ghost use Rattle.ir_print.specs.Counting.{HaveIds};
 
 use crate::items::push_item;
@@ -12,7 +12,7 @@ use std::alloc::{AllocError, Global};
 /// tables.
 ///
 /// Time linear in the module and its text.
-#[tactic(auto, unfolding(ir_text::specs::Printing::module_text, crate::specs::Counting::HaveIds))]
+#[tactic(auto, unfolding(ir_grammar::specs::Printing::module_text, crate::specs::Counting::HaveIds))]
 pub fn module_text(alloc: Global, m: &Module) -> Result<Vec<u8>, AllocError>
     requires { HaveIds m.now }
     ensures { IfOk result (λ text. text.items ≡ module_text m.now) }

@@ -1,7 +1,7 @@
 //! Text names, as they are printed.
 
 ghost use Rattle.std.specs.Prelude.{◌≡◌, ◌++◌, ◌<◌, OnOk};
-ghost use Rattle.ir_text.specs.Printing.{hex_digit, escaped, quoted, name_text};
+ghost use Rattle.ir_grammar.specs.Printing.{hex_digit, escaped, quoted, name_text};
 
 use ir_text::is_word;
 use std::alloc::AllocError;
@@ -29,7 +29,7 @@ fn push_escaped(out: &mut Vec<u8>, byte: u8) -> Result<(), AllocError>
 }
 
 /// Appends a text as a string.
-#[tactic(auto, unfolding(ir_text::specs::Printing::quoted))]
+#[tactic(auto, unfolding(ir_grammar::specs::Printing::quoted))]
 pub fn push_quoted(out: &mut Vec<u8>, text: &[u8]) -> Result<(), AllocError>
     ensures { OnOk result (out.new.items ≡ out.old.items ++ quoted text.now) }
 {
@@ -42,7 +42,7 @@ pub fn push_quoted(out: &mut Vec<u8>, text: &[u8]) -> Result<(), AllocError>
 }
 
 /// Appends a text name: as it is where it is a word, else as a string.
-#[tactic(auto, unfolding(ir_text::specs::Printing::name_text))]
+#[tactic(auto, unfolding(ir_grammar::specs::Printing::name_text))]
 pub fn push_text_name(out: &mut Vec<u8>, name: &[u8]) -> Result<(), AllocError>
     ensures { OnOk result (out.new.items ≡ out.old.items ++ name_text name.now) }
 {

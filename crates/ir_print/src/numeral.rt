@@ -3,7 +3,7 @@
 ghost use Rattle.std.specs.Prelude.{◌≡◌, ◌<◌, ◌≤◌, ◌^◌, ◌++◌, OnOk};
 ghost use Rattle.std.specs.Fmt.{signed_decimal};
 ghost use Rattle.scev_base.specs.Residue.{residue, reading};
-ghost use Rattle.ir_text.specs.Printing.{number_text};
+ghost use Rattle.ir_grammar.specs.Printing.{number_text};
 
 use ir_model::IrType;
 use itoa::Buffer;

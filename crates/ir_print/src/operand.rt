@@ -1,7 +1,7 @@
 //! Operands, with their types and without them.
 
 ghost use Rattle.std.specs.Prelude.{◌≡◌, ◌∷◌, ◌++◌, codes, OnOk};
-ghost use Rattle.ir_text.specs.Printing.{type_text, operand_text, typed_text, pointer_text, target_text, two_text};
+ghost use Rattle.ir_grammar.specs.Printing.{type_text, operand_text, typed_text, pointer_text, target_text, two_text};
 ghost use Rattle.ir_print.specs.Shown.{shown};
 
 use crate::numeral::push_numeral;

@@ -1,7 +1,7 @@
 //! What is shown of the values, blocks and globals of a function.
 
 ghost use Rattle.std.specs.Prelude.{◌≡◌, [], ◌∷◌, ◌++◌, unwrap_or, slice_get, IfOk, OnOk};
-ghost use Rattle.ir_text.specs.Printing.{name_text, shown_in, block_text};
+ghost use Rattle.ir_grammar.specs.Printing.{name_text, shown_in, block_text};
 ghost use Rattle.ir_print.specs.Counting.{HasIds};
 ghost use Rattle.ir_print.specs.Shown.{number_or_next, shown};
 

@@ -1,7 +1,7 @@
 //! Types.
 
 ghost use Rattle.std.specs.Prelude.{◌≡◌, ◌++◌, decimal, OnOk};
-ghost use Rattle.ir_text.specs.Printing.{elements_text, type_text};
+ghost use Rattle.ir_grammar.specs.Printing.{elements_text, type_text};
 
 use ir_model::IrType;
 use itoa::Buffer;
@@ -33,7 +33,7 @@ fn push_elements(out: &mut Vec<u8>, dims: &[u64], width: u32) -> Result<(), Allo
 }
 
 /// Appends a type.
-#[tactic(auto, unfolding(ir_text::specs::Printing::type_text))]
+#[tactic(auto, unfolding(ir_grammar::specs::Printing::type_text))]
 pub fn push_type(out: &mut Vec<u8>, kind: &IrType) -> Result<(), AllocError>
     ensures { OnOk result (out.new.items ≡ out.old.items ++ type_text kind.now) }
 {

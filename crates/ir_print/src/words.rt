@@ -1,7 +1,7 @@
 //! Passed-on words and flags.
 
 ghost use Rattle.std.specs.Prelude.{◌≡◌, ◌++◌, OnOk};
-ghost use Rattle.ir_text.specs.Printing.{align_text, before_space, behind_space, flag_word, words_at};
+ghost use Rattle.ir_grammar.specs.Printing.{align_text, before_space, behind_space, flag_word, words_at};
 
 use ir_model::Text;
 use sqlite_items::at;

@@ -8,14 +8,7 @@ pub mod Said
 pub mod Mentions
 pub mod Types
 pub mod PassedOn
-pub mod Operations
-pub mod Functions
-pub mod Layout
-pub mod Items
 pub mod Sites
-pub mod Numbering
-pub mod Spelled
-pub mod Printing
 pub mod Thin
 pub mod Alike
 pub mod Same

@@ -15,6 +15,7 @@ use Rattle.ir_model.specs.declared.function.Block.{Block}
 use Rattle.ir_model.specs.declared.function.Function.{Function}
 use Rattle.ir_model.specs.declared.item.Item.{Item}
 use Rattle.ir_model.specs.declared.item.Item.TheVariants as item
+use Rattle.ir_text.specs.Mentions.{Mention}
 
 -- ---- ids in text order
 
@@ -137,3 +138,8 @@ without_ids other = other
 abbrev pub item_sites : Item → List Site
 item_sites (item.Define f) = function_sites f
 item_sites _ = []
+
+-- An item without its ids, and the mentions in it.
+pub record Draft : Type 0 where
+  pub item : Item
+  pub mentions : List Mention

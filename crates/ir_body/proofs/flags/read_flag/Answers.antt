@@ -1,5 +1,5 @@
 use Rattle.std.proofs.Common.{true, false, sym}
-use Rattle.ir_items.specs.Reading.{pure}
+use Rattle.ir_parts.specs.Reading.{pure}
 use Rattle.ir_body.specs.Flags.{flag_at}
 use Rattle.ir_body.proofs.WordFirst.{word_first}
 use Rattle.ir_body.proofs.flags.read_flag.Goals as goal

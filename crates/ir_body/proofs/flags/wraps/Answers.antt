@@ -1,6 +1,6 @@
 use Rattle.std.proofs.Common.{true, false, sym, ap, ◌∙◌, codes}
-use Rattle.ir_items.specs.Reading.{go_on, ◌>>=◌, pure, choose, is_keyword, keyword_at, left_from}
-use Rattle.ir_items.proofs.Readers.{chosen_other}
+use Rattle.ir_parts.specs.Reading.{go_on, ◌>>=◌, pure, choose, is_keyword, keyword_at, left_from}
+use Rattle.ir_parts.proofs.Readers.{chosen_other}
 use Rattle.ir_body.specs.Flags.{flag_at, wrap_flags, wraps_at}
 use Rattle.ir_body.proofs.WordFirst.{word_first}
 use Rattle.ir_body.proofs.flags.wraps.Goals as goal

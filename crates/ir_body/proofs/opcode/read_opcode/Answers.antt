@@ -1,5 +1,5 @@
 use Rattle.std.proofs.Common.{sym}
-use Rattle.ir_items.proofs.Places.{one_given, one_not_given}
+use Rattle.ir_parts.proofs.Places.{one_given, one_not_given}
 use Rattle.ir_body.specs.Opcodes.{opcode_of, opcode_at}
 use Rattle.ir_body.proofs.opcode.read_opcode.Goals as goal
 

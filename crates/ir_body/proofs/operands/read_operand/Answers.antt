@@ -1,4 +1,4 @@
-use Rattle.ir_items.proofs.Places.{one_given, one_not_given}
+use Rattle.ir_parts.proofs.Places.{one_given, one_not_given}
 use Rattle.ir_body.specs.Operands.{operand_at, operand_of}
 use Rattle.ir_body.proofs.operands.read_operand.Goals as goal
 

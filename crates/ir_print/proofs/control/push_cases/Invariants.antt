@@ -1,7 +1,7 @@
 use Rattle.std.proofs.Common.{◌≡◌, ◌∷◌, ◌++◌, take}
 use Rattle.std.specs.List.{flat_map}
 use Rattle.ir_model.specs.declared.op.Case.{Case}
-use Rattle.ir_text.specs.Printing.{case_text}
+use Rattle.ir_grammar.specs.Printing.{case_text}
 use Rattle.ir_print.specs.Shown.{shown}
 use Rattle.ir_print.proofs.control.push_cases.Given as goal
 

@@ -1,6 +1,6 @@
 use Rattle.std.proofs.Common.{◌≡◌, ◌++◌, take}
 use Rattle.std.specs.List.{flat_map}
-use Rattle.ir_text.specs.Printing.{instr_text}
+use Rattle.ir_grammar.specs.Printing.{instr_text}
 use Rattle.ir_print.specs.Shown.{shown}
 use Rattle.ir_print.proofs.function.push_block.Given as goal
 

@@ -1,6 +1,6 @@
 use Rattle.std.proofs.Common.{◌≡◌, ◌++◌, take}
 use Rattle.std.specs.List.{flat_map}
-use Rattle.ir_text.specs.Printing.{block_lines}
+use Rattle.ir_grammar.specs.Printing.{block_lines}
 use Rattle.ir_print.specs.Shown.{shown}
 use Rattle.ir_print.proofs.function.push_blocks.Given as goal
 

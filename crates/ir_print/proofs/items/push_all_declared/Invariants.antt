@@ -1,7 +1,7 @@
 use Rattle.std.proofs.Common.{◌≡◌, ◌++◌, codes, take}
 use Rattle.std.specs.List.{flat_map}
 use Rattle.ir_model.specs.declared.item.DeclaredParam.{DeclaredParam}
-use Rattle.ir_text.specs.Printing.{declared_text}
+use Rattle.ir_grammar.specs.Printing.{declared_text}
 use Rattle.ir_print.proofs.items.push_all_declared.Given as goal
 
 -- Behind the first, each parameter so far is printed behind a comma.

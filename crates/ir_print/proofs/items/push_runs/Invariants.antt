@@ -1,6 +1,6 @@
 use Rattle.std.proofs.Common.{◌≡◌, ◌∷◌, ◌++◌, take}
 use Rattle.std.specs.List.{flat_map}
-use Rattle.ir_text.specs.Printing.{behind_space}
+use Rattle.ir_grammar.specs.Printing.{behind_space}
 use Rattle.ir_print.proofs.items.push_runs.Given as goal
 
 -- The runs so far are printed.

@@ -1,6 +1,6 @@
 use Rattle.std.proofs.Common.{codes}
 use Rattle.std.proofs.lemmas.Result.{IfOk-equal}
-use Rattle.ir_text.specs.Printing.{op_text}
+use Rattle.ir_grammar.specs.Printing.{op_text}
 use Rattle.ir_print.proofs.Appended.{appended_six}
 use Rattle.ir_print.proofs.memory.push_gep.Goals as goal
 

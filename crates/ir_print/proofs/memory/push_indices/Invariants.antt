@@ -1,7 +1,7 @@
 use Rattle.std.proofs.Common.{◌≡◌, ◌++◌, codes, take}
 use Rattle.std.specs.List.{flat_map}
 use Rattle.ir_model.specs.declared.op.TypedOperand.{TypedOperand}
-use Rattle.ir_text.specs.Printing.{typed_text}
+use Rattle.ir_grammar.specs.Printing.{typed_text}
 use Rattle.ir_print.specs.Shown.{shown}
 use Rattle.ir_print.proofs.memory.push_indices.Given as goal
 

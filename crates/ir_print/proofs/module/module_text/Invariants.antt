@@ -1,6 +1,6 @@
 use Rattle.std.proofs.Common.{◌≡◌, take}
 use Rattle.std.specs.List.{flat_map}
-use Rattle.ir_text.specs.Printing.{item_text}
+use Rattle.ir_grammar.specs.Printing.{item_text}
 use Rattle.ir_print.proofs.module.module_text.Given as goal
 
 -- The items so far are printed.

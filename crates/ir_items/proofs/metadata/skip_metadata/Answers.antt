@@ -1,8 +1,0 @@
-use Rattle.ir_items.proofs.Told.{tells_place}
-use Rattle.ir_items.proofs.MetadataReaders.{attachments_read}
-use Rattle.ir_items.proofs.metadata.skip_metadata.Goals as goal
-
-pub returns-clause-sentence : goal.returns-clause-sentence
-returns-clause-sentence c =
-    tells_place attachments_read c.args.tokens.now c.args.from c.requires c.attachments.result
-    c.attachments.ensures.value

@@ -1,7 +1,0 @@
-use Rattle.ir_items.proofs.Told.{tells_place}
-use Rattle.ir_items.proofs.MetadataReaders.{pairs_read}
-use Rattle.ir_items.proofs.metadata.skip_pairs.Goals as goal
-
-pub returns-clause-sentence : goal.returns-clause-sentence
-returns-clause-sentence c =
-    tells_place pairs_read c.args.tokens.now c.args.from c.requires c.all_pairs.result c.all_pairs.ensures.value

@@ -1,7 +1,0 @@
-use Rattle.ir_items.proofs.Told.{tells}
-use Rattle.ir_items.proofs.TypeReaders.{returned_types}
-use Rattle.ir_items.proofs.read_types.read_returned_type.Goals as goal
-
-pub returns-clause-sentence : goal.returns-clause-sentence
-returns-clause-sentence c = tells returned_types c.args.tokens.now c.args.from c.requires c.returned_type.result
-    c.returned_type.ensures.value

@@ -1,7 +1,0 @@
-use Rattle.ir_items.proofs.Told.{tells}
-use Rattle.ir_items.proofs.TypeReaders.{any_types}
-use Rattle.ir_items.proofs.read_types.read_type.Goals as goal
-
-pub returns-clause-sentence : goal.returns-clause-sentence
-returns-clause-sentence c = tells any_types c.args.tokens.now c.args.from c.requires c.any_type.result
-    c.any_type.ensures.value

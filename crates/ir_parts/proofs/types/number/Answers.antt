@@ -1,0 +1,12 @@
+use Rattle.std.proofs.Common.{sym}
+use Rattle.ir_parts.specs.TypeReading.{dimension}
+use Rattle.ir_parts.proofs.Places.{one_given, one_not_given}
+use Rattle.ir_parts.proofs.types.number.Goals as goal
+
+pub returns-in-Some-clause-value : goal.returns-in-Some-clause-value
+returns-in-Some-clause-value c = one_given c.args.tokens.now c.args.from dimension c.in-Some.number (sym
+    c.in-Some.ensures.value)
+
+pub returns-in-None-clause-value : goal.returns-in-None-clause-value
+returns-in-None-clause-value c = one_not_given c.args.tokens.now c.args.from dimension (sym c.in-None.ensures.value)
+    c.requires
