@@ -12,5 +12,4 @@ pub mod FlagReaders
 pub mod DroppedWords
 pub mod PlainTellers
 pub mod ValueTellers
-pub mod OpLanguages
 pub mod OperandAt

@@ -7,7 +7,7 @@ use Rattle.ir_text.specs.Mentions.{Mention, Mentioning, ◌⊙◌, silent}
 use Rattle.ir_parts.specs.Reading.{Read, keyword_at, punctuation_at}
 use Rattle.ir_parts.proofs.Readers.{IsReader, StopsAt, Anything, of_language, mapped, followed, stops_at_all}
 use Rattle.ir_parts.proofs.SingleTokens.{keyword_reads, sign_reads}
-use Rattle.ir_body.specs.Telling.{Telling, give, behind, ◌>>=◌, silently}
+use Rattle.ir_body.specs.Telling.{Telling, give, behind, ◌>>=◌, ◌⊗◌, ◌◁◌, made, silently}
 
 -- The reading is one of the language, with the mentions in each sentence.
 pub record IsTeller {X : Type 0} (read : Telling X) (L : X → Mentioning) (Stop : X → Lexeme → Type 0) : Type 0 where
@@ -252,6 +252,41 @@ pub skip : {Y : Type 0} {a : Telling (Unit {0})} {A : Mentioning} {b : Telling Y
     → IsTeller a (λ u. A) Anything → IsTeller b B StopB → IsTeller (a >>= λ u. b) (λ y. A ⊙ B y) StopB
 skip {b = b} {B = B} {StopB = StopB} first next =
     without_unit (skip_then b (λ y. Unit {0}) B StopB first (with_unit next))
+
+-- ---- several parts
+
+-- both values, where what ends the second doesn't continue the first
+pub both_told : {X Y : Type 0} {a : Telling X} {b : Telling Y} {A : X → Mentioning} {B : Y → Mentioning}
+    {StopA : X → Lexeme → Type 0} {StopB : Y → Lexeme → Type 0}
+    → IsTeller a A StopA → IsTeller b B StopB → Follows StopA (λ x. B) StopB
+    → IsTeller (a ⊗ b) (λ p. A p.0 ⊙ B p.1) (λ p. StopB p.1)
+both_told {X} {Y} {a} {b} {A} {B} {StopA} {StopB} first next ends =
+    without_unit (part_tells (λ x. b >>= λ y. give (x, y)) (λ p. p.0) (λ p. Unit {0}) (λ p. B p.1) (λ p. StopB p.1) first
+    (λ x. last_tells (λ y. (x, y)) (λ p. p.1) (λ p. Unit {0} × (p.0 ≡ x)) next (λ y. (tt, refl)) (λ y. refl)
+    (λ p is. ap (λ (x : X). (x, p.1)) is.1))
+    (λ p ms taken rest l stops. ends p.0 p.1 ms taken rest l stops))
+
+-- the same where nothing continues the first
+pub both : {X Y : Type 0} {a : Telling X} {b : Telling Y} {A : X → Mentioning} {B : Y → Mentioning}
+    {StopB : Y → Lexeme → Type 0}
+    → IsTeller a A Anything → IsTeller b B StopB → IsTeller (a ⊗ b) (λ p. A p.0 ⊙ B p.1) (λ p. StopB p.1)
+both first next = both_told first next (λ x y ms taken rest l stops. stops_at_all (taken ++ rest) (λ t. tt))
+
+-- the first value, with what says nothing behind it
+pub kept : {X : Type 0} {a : Telling X} {b : Telling (Unit {0})} {A : X → Mentioning} {B : Mentioning}
+    {StopB : Lexeme → Type 0}
+    → IsTeller a A Anything → IsTeller b (λ u. B) (λ u. StopB) → IsTeller (a ◁ b) (λ x. A x ⊙ B) (λ x. StopB)
+kept {X} {a} {b} {A} {B} {StopB} first next =
+    without_unit (part_then (λ x. b >>= λ u. give x) (λ x. x) (λ x. Unit {0}) (λ x. B) (λ x. StopB) first
+    (λ x. last_tells (λ u. x) (λ y. tt) (λ y. Unit {0} × (y ≡ x)) next (λ u. (tt, refl)) (λ u. refl) (λ y is. is.1)))
+
+-- What is spelled is made of what was read.
+abbrev pub IsMade : {R Z : Type 0} → (R → Z) → (R → Mentioning) → Z → Mentioning
+IsMade {R} make Spells z ms ts = (read : R) × (z ≡ make read) × Spells read ms ts
+
+pub made_told : {R Z : Type 0} {a : Telling R} {Spells : R → Mentioning} (make : R → Z) (Stop : Lexeme → Type 0)
+    → IsTeller a Spells (λ r. Stop) → IsTeller (made make a) (IsMade make Spells) (λ z. Stop)
+made_told make Stop reads = made_tells make (λ z. Stop) (λ r t stop. stop) (λ r t stop. stop) reads
 
 -- words and signs
 pub word_tells : (text : List ℕ) → IsTeller (silently (keyword_at text))

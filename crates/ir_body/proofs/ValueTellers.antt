@@ -11,16 +11,15 @@ use Rattle.ir_text.specs.Tokens.{Lexeme}
 use Rattle.ir_text.specs.Mentions.{Mention, Mentioning, ◌⊙◌, silent}
 use Rattle.ir_text.specs.Types.{IsScalar, SpellsTypeOf}
 use Rattle.ir_grammar.specs.Operations.{SpellsOperand, SpellsTyped, SpellsFlag, dropped_word, the_word, the_comma}
-use Rattle.ir_parts.specs.Reading.{keyword_at, punctuation_at, begins, is_keyword}
+use Rattle.ir_parts.specs.Reading.{keyword_at, begins, is_keyword}
 use Rattle.ir_parts.specs.TypeReading.{scalar_type_at}
 use Rattle.ir_parts.proofs.Readers.{Anything}
 use Rattle.ir_parts.proofs.TypeReaders.{scalar_types}
 use Rattle.ir_body.specs.declared.operation.Operation.{Operation}
 use Rattle.ir_body.specs.Telling.{give, ◌>>=◌, silently}
-use Rattle.ir_body.specs.Operands.{typed_at}
 use Rattle.ir_body.specs.Plain.{plain}
-use Rattle.ir_body.specs.Values.{converted_parts_at, converted_at, zext_at, trunc_at, select_parts_at, select_at}
-use Rattle.ir_body.proofs.Tellers.{IsTeller, silent_tells, each_tells, part_then, skip_then, skip, last_tells, made_tells, without_unit, word_tells, sign_tells}
+use Rattle.ir_body.specs.Values.{converted_parts_at, converted_at, zext_at, trunc_at, select_at}
+use Rattle.ir_body.proofs.Tellers.{IsTeller, silent_tells, each_tells, part_then, skip_then, skip, last_tells, made_tells, made_told, IsMade, both, without_unit, word_tells, sign_tells}
 use Rattle.ir_body.proofs.OperandTellers.{operand_tells, typed_tells}
 use Rattle.ir_body.proofs.DroppedWords.{drop_tells}
 use Rattle.ir_body.proofs.FlagReaders.{flag_reads, flag_stops, scalar_is_no}
@@ -105,33 +104,8 @@ abbrev pub SpellsSelect : Operand × (TypedOperand × TypedOperand) → Mentioni
 SpellsSelect read = the_word (codes "i1") ⊙ (SpellsOperand read.0 ⊙ (the_comma ⊙ (SpellsTyped read.1.0
     ⊙ (the_comma ⊙ SpellsTyped read.1.1))))
 
-pub select_parts_tell : IsTeller select_parts_at SpellsSelect Anything
-unfolding select_parts_at
-select_parts_tell = skip (word_tells (codes "i1"))
-    (without_unit (part_then
-    (λ cond. silently (punctuation_at 44) >>= λ _. typed_at >>= λ left. silently (punctuation_at 44) >>= λ _.
-    typed_at >>= λ right. give (cond, (left, right)))
-    (λ read. read.0) (λ read. Unit {0})
-    (λ read. the_comma ⊙ (SpellsTyped read.1.0 ⊙ (the_comma ⊙ SpellsTyped read.1.1))) Anything operand_tells
-    (λ cond. skip_then
-    (typed_at >>= λ left. silently (punctuation_at 44) >>= λ _. typed_at >>= λ right. give (cond, (left, right)))
-    (λ read. Unit {0} × (read.0 ≡ cond)) (λ read. SpellsTyped read.1.0 ⊙ (the_comma ⊙ SpellsTyped read.1.1)) Anything
-    (sign_tells 44)
-    (part_then (λ left. silently (punctuation_at 44) >>= λ _. typed_at >>= λ right. give (cond, (left, right)))
-    (λ read. read.1.0) (λ read. Unit {0} × (read.0 ≡ cond))
-    (λ read. the_comma ⊙ SpellsTyped read.1.1) Anything typed_tells
-    (λ left. skip_then (typed_at >>= λ right. give (cond, (left, right)))
-    (λ read. (Unit {0} × (read.0 ≡ cond)) × (read.1.0 ≡ left)) (λ read. SpellsTyped read.1.1) Anything (sign_tells 44)
-    (last_tells (λ right. (cond, (left, right))) (λ read. read.1.1)
-    (λ read. (Unit {0} × (read.0 ≡ cond)) × (read.1.0 ≡ left)) typed_tells
-    (λ right. ((tt, refl), refl)) (λ right. refl)
-    (λ read is. ap (λ (cond : Operand). (cond, read.1)) is.0.1
-    ∙ ap (λ (left : TypedOperand). (cond, (left, read.1.1))) is.1)))))))
-
-pub select_tells : IsTeller select_at
-    (λ operation ms ts. (read : Operand × (TypedOperand × TypedOperand))
-    × (operation ≡ plain (Select read.0 read.1.0 read.1.1))
-    × SpellsSelect read ms ts) Anything
+pub select_tells : IsTeller select_at (IsMade (λ read. plain (Select read.0 read.1.0 read.1.1)) SpellsSelect) Anything
 unfolding select_at
-select_tells = made_tells (λ read. plain (Select read.0 read.1.0 read.1.1)) Anything (λ read t stop. tt)
-    (λ read t stop. tt) select_parts_tell
+select_tells = made_told (λ read. plain (Select read.0 read.1.0 read.1.1)) (λ t. Unit {0})
+    (skip (word_tells (codes "i1")) (both operand_tells (skip (sign_tells 44) (both typed_tells (skip (sign_tells 44)
+    typed_tells)))))

@@ -2,7 +2,7 @@
 use Rattle.std.specs.Prelude.{ℕ, List, [], ◌++◌, Result, Ok}
 use Rattle.ir_text.specs.Tokens.{Lexeme}
 use Rattle.ir_text.specs.Mentions.{Mention}
-use Rattle.ir_parts.specs.Reading.{Read, go_on}
+use Rattle.ir_parts.specs.Reading.{Read, go_on, keyword_at, punctuation_at}
 
 abbrev pub Telling : Type 0 → Type 0
 Telling X = Read (X × List Mention)
@@ -24,3 +24,31 @@ abbrev pub ◌>>=◌ : {A B : Type 0} → Telling A → (A → Telling B) → Te
 -- a reading of what has no mentions
 abbrev pub silently : {A : Type 0} → Read A → Telling A
 silently a ts = go_on (a ts) (λ x rest. Ok ((x, []), rest))
+
+-- both, one after the other
+infixr 20 ◌⊗◌
+abbrev pub ◌⊗◌ : {A B : Type 0} → Telling A → Telling B → Telling (A × B)
+a ⊗ b = a >>= λ x. b >>= λ y. give (x, y)
+
+-- what says nothing, and then something; and the other way round
+infixr 20 ◌▷◌
+abbrev pub ◌▷◌ : {B : Type 0} → Telling (Unit {0}) → Telling B → Telling B
+a ▷ b = a >>= λ _. b
+
+infixr 20 ◌◁◌
+abbrev pub ◌◁◌ : {A : Type 0} → Telling A → Telling (Unit {0}) → Telling A
+a ◁ b = a >>= λ x. b >>= λ _. give x
+
+-- what is made of it
+abbrev pub made : {A B : Type 0} → (A → B) → Telling A → Telling B
+made make a = a >>= λ x. give (make x)
+
+-- this word, this sign, a comma
+abbrev pub word_at : List ℕ → Telling (Unit {0})
+word_at text = silently (keyword_at text)
+
+abbrev pub sign_at : ℕ → Telling (Unit {0})
+sign_at b = silently (punctuation_at b)
+
+abbrev pub comma_at : Telling (Unit {0})
+comma_at = sign_at 44

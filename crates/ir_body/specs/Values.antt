@@ -1,15 +1,14 @@
 -- Readings of conversions and choices, from behind their opcode.
 use Rattle.std.specs.Prelude.{Bool, false, codes}
 use Rattle.ir_model.specs.declared.types.IrType.{IrType}
-use Rattle.ir_model.specs.declared.op.Operand.{Operand}
 use Rattle.ir_model.specs.declared.op.CastOp.{CastOp}
 use Rattle.ir_model.specs.declared.op.CastOp.TheVariants as cast
 use Rattle.ir_model.specs.declared.op.TypedOperand.{TypedOperand}
 use Rattle.ir_model.specs.declared.op.Op.TheVariants.{Cast, Select}
-use Rattle.ir_parts.specs.Reading.{keyword_at, punctuation_at}
+use Rattle.ir_parts.specs.Reading.{keyword_at}
 use Rattle.ir_parts.specs.TypeReading.{scalar_type_at}
 use Rattle.ir_body.specs.declared.operation.Operation.{Operation}
-use Rattle.ir_body.specs.Telling.{Telling, give, ◌>>=◌, silently}
+use Rattle.ir_body.specs.Telling.{Telling, give, ◌>>=◌, ◌⊗◌, ◌▷◌, made, word_at, comma_at, silently}
 use Rattle.ir_body.specs.Operands.{operand_at, typed_at}
 use Rattle.ir_body.specs.Flags.{flag_at}
 use Rattle.ir_body.specs.Plain.{plain}
@@ -43,17 +42,6 @@ cast_at cast.Zext = zext_at
 cast_at cast.Sext = converted_at cast.Sext false
 cast_at cast.Trunc = trunc_at
 
-unfoldable pub select_parts_at : Telling (Operand × (TypedOperand × TypedOperand))
-select_parts_at = do
-  _ ← silently (keyword_at (codes "i1"))
-  cond ← operand_at
-  _ ← silently (punctuation_at 44)
-  left ← typed_at
-  _ ← silently (punctuation_at 44)
-  right ← typed_at
-  give (cond, (left, right))
-
 unfoldable pub select_at : Telling Operation
-select_at = do
-  read ← select_parts_at
-  give (plain (Select read.0 read.1.0 read.1.1))
+select_at = made (λ read. plain (Select read.0 read.1.0 read.1.1))
+    (word_at (codes "i1") ▷ operand_at ⊗ (comma_at ▷ typed_at ⊗ (comma_at ▷ typed_at)))

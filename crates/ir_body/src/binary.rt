@@ -10,9 +10,9 @@ use crate::flags::{read_flag, read_flags};
 use crate::opcode::read_predicate;
 use crate::operands::{read_two, read_typed};
 use crate::operation::Operation;
-use ir_parts::ItemFault;
 use ir_lex::Tokens;
 use ir_model::{BinOp, Op};
+use ir_parts::ItemFault;
 use sqlite_items::Items;
 use std::alloc::Global;
 

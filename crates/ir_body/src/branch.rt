@@ -8,9 +8,9 @@ ghost use Rattle.ir_body.specs.Views.{bare_operation, operation_sites};
 
 use crate::operands::{read_operand, read_target, read_typed};
 use crate::operation::Operation;
-use ir_parts::{ItemFault, behind_keyword, behind_sign, starts_keyword};
 use ir_lex::Tokens;
 use ir_model::Op;
+use ir_parts::{ItemFault, behind_keyword, behind_sign, starts_keyword};
 use sqlite_items::Items;
 use std::alloc::Global;
 

@@ -4,9 +4,9 @@ ghost use Rattle.std.specs.Prelude.{◌≡◌, ◌≤◌, length, Ok};
 ghost use Rattle.ir_parts.specs.Reading.{left_from};
 ghost use Rattle.ir_body.specs.Flags.{flag_at, wraps_at, exact_at, disjoint_at, flags_at};
 
-use ir_parts::starts_keyword;
 use ir_lex::Tokens;
 use ir_model::BinOp;
+use ir_parts::starts_keyword;
 
 /// The flags of an operation of two operands.
 #[derive(Clone, Copy, Debug, PartialEq, Eq)]

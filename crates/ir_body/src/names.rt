@@ -5,8 +5,8 @@ ghost use Rattle.std.specs.Option.{is_some};
 ghost use Rattle.ir_text.specs.Names.{is_signed_number};
 ghost use Rattle.ir_text.specs.Said.{said, said_global_text, said_local, said_global};
 
-use ir_parts::{is_number, is_string_text};
 use ir_lex::TokenKind;
+use ir_parts::{is_number, is_string_text};
 use ir_text::is_word;
 
 /// Whether a token is `%name`.

@@ -4,9 +4,9 @@ ghost use Rattle.std.specs.Prelude.{◌≡◌, ◌+◌, ◌^◌, ◌<◌, ◌≤
 ghost use Rattle.ir_parts.specs.Reading.{left_from, first_given, Reads};
 ghost use Rattle.ir_body.specs.Opcodes.{binary_opcode, value_opcode, memory_opcode, ending_opcode, opcode_of_text, opcode_of, opcode_at, fitting, may_have_result, predicate_of_text, predicate_of, predicate_at};
 
-use ir_parts::{ItemFault, next};
 use ir_lex::{TokenKind, Tokens};
 use ir_model::{BinOp, CastOp};
+use ir_parts::{ItemFault, next};
 use scev_base::Pred;
 
 /// What an instruction begins with.

@@ -13,9 +13,9 @@ ghost use Rattle.ir_body.specs.Operands.{operand_of, word_operand, operand_at, t
 ghost use Rattle.ir_body.specs.Views.{bare_two, two_sites, bare_block_name, block_name_sites};
 
 use crate::names::{is_global, is_local, is_signed_number};
-use ir_parts::{ItemFault, behind_keyword, behind_sign, next, read_scalar_type};
 use ir_lex::{TokenKind, Tokens, signed_value};
 use ir_model::{IrType, Operand, TypedOperand};
+use ir_parts::{ItemFault, behind_keyword, behind_sign, next, read_scalar_type};
 use scev_base::{BlockId, ValueId};
 
 /// An operand: a register, a global, a numeral, or one of `true`, `false`, `null`, `undef` and `poison`.

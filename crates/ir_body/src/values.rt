@@ -3,15 +3,15 @@
 ghost use Rattle.std.specs.Prelude.{◌≡◌, ◌<◌, ◌≤◌, length, IfOk};
 ghost use Rattle.ir_parts.specs.Reading.{left_from, ReadsAs};
 ghost use Rattle.ir_parts.specs.Places.{mentions_at};
-ghost use Rattle.ir_body.specs.Values.{converted_parts_at, converted_at, zext_at, trunc_at, cast_at, select_parts_at, select_at};
+ghost use Rattle.ir_body.specs.Values.{converted_parts_at, converted_at, zext_at, trunc_at, cast_at, select_at};
 ghost use Rattle.ir_body.specs.Views.{bare_operation, operation_sites};
 
 use crate::flags::read_flag;
 use crate::operands::{read_operand, read_typed};
 use crate::operation::Operation;
-use ir_parts::{ItemFault, behind_keyword, behind_sign, read_scalar_type};
 use ir_lex::Tokens;
 use ir_model::{CastOp, Op};
+use ir_parts::{ItemFault, behind_keyword, behind_sign, read_scalar_type};
 use sqlite_items::Items;
 use std::alloc::Global;
 
@@ -87,7 +87,7 @@ fn converted(
 }
 
 /// `i1`, an operand, and two operands with their types.
-#[tactic(auto, unfolding(crate::specs::Values::select_at, crate::specs::Values::select_parts_at), using(crate::proofs::Told::told))]
+#[tactic(auto, unfolding(crate::specs::Values::select_at), using(crate::proofs::Told::told))]
 pub fn read_select(
     alloc: Global,
     tokens: &Tokens<'_>,

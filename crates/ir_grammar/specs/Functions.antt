@@ -13,12 +13,12 @@ use Rattle.ir_model.specs.declared.function.Function.{Function}
 use Rattle.ir_text.specs.declared.token.TokenKind.TheVariants.{Group}
 use Rattle.ir_text.specs.Names.{is_word}
 use Rattle.ir_text.specs.Tokens.{Lexeme}
-use Rattle.ir_text.specs.Language.{Language, ◌·◌, ◌or◌, nothing, one, keyword, punctuation, Many}
+use Rattle.ir_text.specs.Language.{Language, ◌·◌, ◌or◌, nothing, one, keyword, Many}
 use Rattle.ir_text.specs.Written.{IsGlobal}
 use Rattle.ir_text.specs.Mentions.{DefinesValue, DefinesBlock, Mentioning, ◌⊙◌, silent, defines_value, defines_block, unwritten, InOrder}
 use Rattle.ir_text.specs.Types.{IsScalar, IsReturned, SpellsTypeOf}
 use Rattle.ir_text.specs.PassedOn.{SpellsWords, in_parentheses, attachments, metadata_pairs}
-use Rattle.ir_grammar.specs.Operations.{SpellsOp, Listing, SpellsTail, the_sign}
+use Rattle.ir_grammar.specs.Operations.{SpellsOp, Listing, SpellsTail, the_word, the_sign, the_type}
 
 -- ---- what an instruction gives
 
@@ -100,15 +100,14 @@ SpellsBlock block = (λ ms ts. (block.id.0 ≡ 0) × (defines_block ms ts ⊎ un
 
 -- `type W %name`, where the name may be left out
 abbrev pub SpellsParam : Param → Mentioning
-SpellsParam param = silent (SpellsTypeOf IsScalar param.kind · SpellsWords param.words)
+SpellsParam param = the_type IsScalar param.kind ⊙ silent (SpellsWords param.words)
     ⊙ (λ ms ts. (param.value.0 ≡ 0) × (defines_value ms ts ⊎ unwritten (DefinesValue None) ms ts))
 
 -- a function whose tables are empty
 abbrev pub SpellsFunction : Function → Mentioning
 SpellsFunction f ms ts = (before after : List ℕ) × (f.words ≡ before ∷ after ∷ []) × (f.blocks ≢ []) × (f.values ≡ [])
     × (f.labels ≡ [])
-    × (silent (keyword (codes "define") · SpellsWords before · SpellsTypeOf IsReturned f.ret · one (IsGlobal f.name)
-    · punctuation 40)
-    ⊙ Listing SpellsParam f.params
-    ⊙ silent (punctuation 41 · SpellsWords after · metadata_pairs · punctuation 123)
-    ⊙ InOrder SpellsBlock f.blocks ⊙ the_sign 125) ms ts
+    × (the_word (codes "define") ⊙ silent (SpellsWords before) ⊙ the_type IsReturned f.ret
+    ⊙ silent (one (IsGlobal f.name)) ⊙ the_sign 40 ⊙ Listing SpellsParam f.params ⊙ the_sign 41
+    ⊙ silent (SpellsWords after) ⊙ silent metadata_pairs
+    ⊙ the_sign 123 ⊙ InOrder SpellsBlock f.blocks ⊙ the_sign 125) ms ts

@@ -1,5 +1,5 @@
 -- How the items of a module are written, and what of a module is dropped.
-use Rattle.std.specs.Prelude.{◌≡◌, ℕ, Bool, true, false, List, [], ◌∷◌, ◌++◌, IsTrue, ◌⊎◌, Option, Some, None, codes}
+use Rattle.std.specs.Prelude.{◌≡◌, ℕ, Bool, true, false, List, [], ◌∷◌, ◌++◌, Option, Some, None, codes}
 use Rattle.ir_model.specs.declared.types.IrType.{IrType}
 use Rattle.ir_model.specs.declared.op.Operand.{Operand}
 use Rattle.ir_model.specs.declared.op.Operand.TheVariants as operand

@@ -2,17 +2,6 @@
 use Rattle.std.specs.Prelude.{◌≡◌, ℕ, ◌+◌, ◌<◌, Bool, false, not, ◌==◌, max, List, [], ◌∷◌, ◌++◌, map, Option, Some, None, slice_get}
 use Rattle.std.specs.List.{filter, list_any}
 use Rattle.std.specs.Str.{bytes_eq}
-use Rattle.scev_base.specs.declared.ids.ValueId.{ValueId}
-use Rattle.ir_model.specs.declared.op.Operand.{Operand}
-use Rattle.ir_model.specs.declared.op.Operand.TheVariants as operand
-use Rattle.ir_model.specs.declared.op.TypedOperand.{TypedOperand}
-use Rattle.ir_model.specs.declared.op.PhiEntry.{PhiEntry}
-use Rattle.ir_model.specs.declared.op.Case.{Case}
-use Rattle.ir_model.specs.declared.op.Op.{Op}
-use Rattle.ir_model.specs.declared.op.Op.TheVariants.{Binary, Icmp, Cast, Select, Phi, Freeze, Alloca, Load, Store, Gep, Call, Jump, Branch, Switch, Ret, Unreachable}
-use Rattle.ir_model.specs.declared.function.Param.{Param}
-use Rattle.ir_model.specs.declared.function.Instr.{Instr}
-use Rattle.ir_model.specs.declared.function.Block.{Block}
 use Rattle.ir_model.specs.declared.function.Function.{Function}
 use Rattle.ir_model.specs.declared.function.ValueInfo.{ValueInfo}
 use Rattle.ir_model.specs.declared.item.Item.{Item}

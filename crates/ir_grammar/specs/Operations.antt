@@ -1,5 +1,5 @@
 -- How instructions are written, one production each, with the names that are mentioned in them; ids are 0.
-use Rattle.std.specs.Prelude.{◌≡◌, ℕ, Bool, true, false, List, [], ◌∷◌, ◌++◌, IsTrue, ◌⊎◌, ◌↔◌, ℤ, pos, Option, Some, None, Contains, All, map, codes, decimal, nat_eq}
+use Rattle.std.specs.Prelude.{◌≡◌, ℕ, Bool, true, false, List, [], ◌∷◌, ◌++◌, IsTrue, ◌⊎◌, ◌↔◌, ℤ, pos, Some, None, Contains, All, map, codes, decimal, nat_eq}
 use Rattle.std.specs.List.{starts_with, IsDistinct}
 use Rattle.std.specs.Str.{bytes_eq}
 use Rattle.scev_base.specs.declared.pred.Pred.{Pred}
@@ -52,9 +52,13 @@ the_sign b = silent (punctuation b)
 abbrev pub the_comma : Mentioning
 the_comma = silent comma
 
+-- a type of these kinds
+abbrev pub the_type : (IrType → Type 0) → IrType → Mentioning
+the_type Is kind = silent (SpellsTypeOf Is kind)
+
 -- `type v`, and `ptr v`
 abbrev pub SpellsTyped : TypedOperand → Mentioning
-SpellsTyped typed = silent (SpellsTypeOf IsScalar typed.kind) ⊙ SpellsOperand typed.value
+SpellsTyped typed = the_type IsScalar typed.kind ⊙ SpellsOperand typed.value
 
 abbrev pub SpellsPointer : Operand → Mentioning
 SpellsPointer pointer = the_word (codes "ptr") ⊙ SpellsOperand pointer
@@ -144,7 +148,7 @@ SpellsBinaryFlags NoFlag flags ts = (flags.nuw ≡ false) × (flags.nsw ≡ fals
 
 -- `type v, v`
 abbrev pub SpellsTwo : IrType → Operand → Operand → Mentioning
-SpellsTwo kind left right = silent (SpellsTypeOf IsScalar kind) ⊙ SpellsOperand left ⊙ the_comma ⊙ SpellsOperand right
+SpellsTwo kind left right = the_type IsScalar kind ⊙ SpellsOperand left ⊙ the_comma ⊙ SpellsOperand right
 
 abbrev pub pred_text : Pred → List ℕ
 pred_text pred.Eq = codes "eq"
@@ -158,12 +162,16 @@ pred_text pred.Sge = codes "sge"
 pred_text pred.Slt = codes "slt"
 pred_text pred.Sle = codes "sle"
 
--- the word of a conversion, and its flags
-abbrev pub SpellsCast : CastOp → Bool → Language
-SpellsCast cast.Zext nneg ts = (keyword (codes "zext") · SpellsFlag (codes "nneg") nneg) ts
-SpellsCast cast.Sext nneg ts = (nneg ≡ false) × keyword (codes "sext") ts
-SpellsCast cast.Trunc nneg ts = (nneg ≡ false)
-    × (keyword (codes "trunc") · dropped_word (codes "nuw") · dropped_word (codes "nsw")) ts
+abbrev pub cast_text : CastOp → List ℕ
+cast_text cast.Zext = codes "zext"
+cast_text cast.Sext = codes "sext"
+cast_text cast.Trunc = codes "trunc"
+
+-- the flags of a conversion, of which those of `trunc` are dropped
+abbrev pub SpellsCastFlags : CastOp → Bool → Language
+SpellsCastFlags cast.Zext nneg ts = SpellsFlag (codes "nneg") nneg ts
+SpellsCastFlags cast.Sext nneg ts = (nneg ≡ false) × nothing ts
+SpellsCastFlags cast.Trunc nneg ts = (nneg ≡ false) × (dropped_word (codes "nuw") · dropped_word (codes "nsw")) ts
 
 -- ---- the rest
 
@@ -190,8 +198,7 @@ pub record Argument : Type 0 where
   pub words : List ℕ
 
 abbrev pub SpellsArgument : Argument → Mentioning
-SpellsArgument arg = silent (SpellsTypeOf IsScalar arg.typed.kind · SpellsWords arg.words)
-    ⊙ SpellsOperand arg.typed.value
+SpellsArgument arg = the_type IsScalar arg.typed.kind ⊙ silent (SpellsWords arg.words) ⊙ SpellsOperand arg.typed.value
 
 -- things with commas between them: one or more, or any number
 abbrev pub WithCommas : {A : Type 0} → (A → List Mention → List Lexeme → Type 0) → List A → Mentioning
@@ -223,53 +230,51 @@ IsCallee ret name = (is_intrinsic name ≡ false) ⊎ ((width : ℕ) × (ret ≡
 
 -- `case`, with its type and its target
 abbrev pub SpellsCase : Case → Mentioning
-SpellsCase c = silent (SpellsTypeOf IsScalar c.kind · SpellsNumber c.number) ⊙ the_comma ⊙ SpellsTarget c.to.0
+SpellsCase c = the_type IsScalar c.kind ⊙ silent (SpellsNumber c.number) ⊙ the_comma ⊙ SpellsTarget c.to.0
 
 -- The operation, and its passed-on words in the order of the text, one text for each place where some may stand.
 abbrev pub SpellsOp : Op → List (List ℕ) → Mentioning
 SpellsOp (Binary op nuw nsw exact disjoint kind left right) words ms ts = (words ≡ [])
-    × (silent (keyword (binary_text op)
-    · SpellsBinaryFlags (flag_kind op) (record { nuw = nuw; nsw = nsw; exact = exact; disjoint = disjoint }))
+    × (the_word (binary_text op)
+    ⊙ silent (SpellsBinaryFlags (flag_kind op) (record { nuw = nuw; nsw = nsw; exact = exact; disjoint = disjoint }))
     ⊙ SpellsTwo kind left right) ms ts
 SpellsOp (Icmp pred kind left right) words ms ts = (words ≡ [])
-    × (silent (keyword (codes "icmp") · dropped_word (codes "samesign") · keyword (pred_text pred))
+    × (the_word (codes "icmp") ⊙ silent (dropped_word (codes "samesign")) ⊙ the_word (pred_text pred)
     ⊙ SpellsTwo kind left right) ms ts
 SpellsOp (Cast op nneg from value to) words ms ts = (words ≡ [])
-    × (silent (SpellsCast op nneg) ⊙ SpellsTyped (record { kind = from; value = value })
-    ⊙ silent (keyword (codes "to") · SpellsTypeOf IsScalar to)) ms ts
+    × (the_word (cast_text op) ⊙ silent (SpellsCastFlags op nneg)
+    ⊙ SpellsTyped (record { kind = from; value = value }) ⊙ the_word (codes "to") ⊙ the_type IsScalar to) ms ts
 SpellsOp (Select cond left right) words ms ts = (words ≡ [])
-    × (silent (keyword (codes "select") · keyword (codes "i1")) ⊙ SpellsOperand cond ⊙ the_comma
+    × (the_word (codes "select") ⊙ the_word (codes "i1") ⊙ SpellsOperand cond ⊙ the_comma
     ⊙ SpellsTyped left ⊙ the_comma ⊙ SpellsTyped right) ms ts
 SpellsOp (Phi kind entries) words ms ts = (words ≡ [])
-    × (silent (keyword (codes "phi") · SpellsTypeOf IsScalar kind) ⊙ WithCommas SpellsEntry entries) ms ts
+    × (the_word (codes "phi") ⊙ the_type IsScalar kind ⊙ WithCommas SpellsEntry entries) ms ts
 SpellsOp (Freeze kind value) words ms ts = (words ≡ [])
     × (the_word (codes "freeze") ⊙ SpellsTyped (record { kind = kind; value = value })) ms ts
 SpellsOp (Alloca kind) words ms ts = (align : List ℕ) × (words ≡ align ∷ [])
-    × silent (keyword (codes "alloca") · SpellsTypeOf IsStored kind · SpellsAlign align) ms ts
+    × (the_word (codes "alloca") ⊙ the_type IsStored kind ⊙ silent (SpellsAlign align)) ms ts
 SpellsOp (Load kind from) words ms ts = (align : List ℕ) × (words ≡ align ∷ [])
-    × (silent (keyword (codes "load") · SpellsTypeOf IsInt kind · comma) ⊙ SpellsPointer from
-    ⊙ silent (SpellsAlign align)) ms ts
+    × (the_word (codes "load") ⊙ the_type IsInt kind ⊙ the_comma ⊙ SpellsPointer from ⊙ silent (SpellsAlign align)) ms ts
 SpellsOp (Store kind value to) words ms ts = (align : List ℕ) × (words ≡ align ∷ [])
-    × (silent (keyword (codes "store") · SpellsTypeOf IsInt kind) ⊙ SpellsOperand value ⊙ the_comma
+    × (the_word (codes "store") ⊙ the_type IsInt kind ⊙ SpellsOperand value ⊙ the_comma
     ⊙ SpellsPointer to ⊙ silent (SpellsAlign align)) ms ts
 SpellsOp (Gep inbounds kind base indices) words ms ts = (words ≡ [])
-    × (silent (keyword (codes "getelementptr") · SpellsGepFlags inbounds · SpellsTypeOf IsStored kind · comma)
+    × (the_word (codes "getelementptr") ⊙ silent (SpellsGepFlags inbounds) ⊙ the_type IsStored kind ⊙ the_comma
     ⊙ SpellsPointer base ⊙ InOrder (λ index. the_comma ⊙ SpellsTyped index) indices) ms ts
 SpellsOp (Call ret callee args) words ms ts = (tail before after : List ℕ) × (arguments : List Argument)
     × (words ≡ tail ∷ before ∷ (map (λ (arg : Argument). arg.words) arguments ++ after ∷ []))
     × (args ≡ map (λ (arg : Argument). arg.typed) arguments)
     × IsCallee ret callee
-    × (silent (SpellsTail tail · keyword (codes "call") · SpellsWords before · SpellsTypeOf IsReturned ret
-    · one (IsGlobal callee) · punctuation 40)
-    ⊙ Listing SpellsArgument arguments ⊙ silent (punctuation 41 · SpellsWords after)) ms ts
+    × (silent (SpellsTail tail) ⊙ the_word (codes "call") ⊙ silent (SpellsWords before) ⊙ the_type IsReturned ret
+    ⊙ silent (one (IsGlobal callee)) ⊙ the_sign 40 ⊙ Listing SpellsArgument arguments ⊙ the_sign 41
+    ⊙ silent (SpellsWords after)) ms ts
 SpellsOp (Jump to) words ms ts = (words ≡ []) × (the_word (codes "br") ⊙ SpellsTarget to.0) ms ts
 SpellsOp (Branch cond there other) words ms ts = (words ≡ [])
-    × (silent (keyword (codes "br") · keyword (codes "i1")) ⊙ SpellsOperand cond ⊙ the_comma
+    × (the_word (codes "br") ⊙ the_word (codes "i1") ⊙ SpellsOperand cond ⊙ the_comma
     ⊙ SpellsTarget there.0 ⊙ the_comma ⊙ SpellsTarget other.0) ms ts
 SpellsOp (Switch kind value other cases) words ms ts = (words ≡ [])
     × (the_word (codes "switch") ⊙ SpellsTyped (record { kind = kind; value = value }) ⊙ the_comma
-    ⊙ SpellsTarget other.0
-    ⊙ the_sign 91 ⊙ InOrder SpellsCase cases ⊙ the_sign 93) ms ts
-SpellsOp (Ret None) words ms ts = (words ≡ []) × silent (keyword (codes "ret") · keyword (codes "void")) ms ts
+    ⊙ SpellsTarget other.0 ⊙ the_sign 91 ⊙ InOrder SpellsCase cases ⊙ the_sign 93) ms ts
+SpellsOp (Ret None) words ms ts = (words ≡ []) × (the_word (codes "ret") ⊙ the_word (codes "void")) ms ts
 SpellsOp (Ret (Some typed)) words ms ts = (words ≡ []) × (the_word (codes "ret") ⊙ SpellsTyped typed) ms ts
-SpellsOp Unreachable words ms ts = (words ≡ []) × silent (keyword (codes "unreachable")) ms ts
+SpellsOp Unreachable words ms ts = (words ≡ []) × the_word (codes "unreachable") ms ts

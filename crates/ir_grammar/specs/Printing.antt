@@ -1,11 +1,10 @@
 -- The printed text of a module.
-use Rattle.std.specs.Prelude.{◌≡◌, ℕ, ◌+◌, ◌-◌, ◌/◌, ◌%◌, Bool, true, false, not, ◌==◌, ◌&&◌, nat_le, nat_lt, if◌then◌else◌, List, [], ◌∷◌, ◌++◌, length, map, drop, ℤ, Option, Some, None, unwrap_or, slice_get, codes, decimal, is_none}
+use Rattle.std.specs.Prelude.{ℕ, ◌+◌, ◌/◌, ◌%◌, Bool, false, not, ◌==◌, ◌&&◌, nat_le, nat_lt, if◌then◌else◌, List, [], ◌∷◌, ◌++◌, length, drop, ℤ, Option, Some, None, unwrap_or, slice_get, codes, decimal, is_none}
 use Rattle.std.specs.Fmt.{signed_decimal}
 use Rattle.std.specs.List.{flat_map, filter, prefix_len}
 use mathlib.Core.Former.{Count}
 use Rattle.scev_base.specs.Residue.{residue, reading}
 use Rattle.scev_base.specs.declared.ids.ValueId.{ValueId}
-use Rattle.scev_base.specs.declared.pred.Pred.{Pred}
 use Rattle.ir_model.specs.declared.types.IrType.{IrType}
 use Rattle.ir_model.specs.declared.types.IrType.TheVariants.{Void, Int, Ptr, Array}
 use Rattle.ir_model.specs.declared.op.Operand.{Operand}

@@ -1,7 +1,7 @@
 -- Which texts spell a module, and where a text that spells none is refused.
 use Rattle.std.specs.Prelude.{◌≡◌, ◌≢◌, ℕ, ◌+◌, true, List, [], ◌∷◌, ◌++◌, length, map, Some, slice_get, ◌⊎◌, codes}
 use Rattle.ir_model.specs.declared.item.Module.{Module}
-use Rattle.ir_text.specs.declared.token.TokenKind.TheVariants.{Word, Global, Quoted, Sign, Dots}
+use Rattle.ir_text.specs.declared.token.TokenKind.TheVariants.{Word, Quoted, Sign, Dots}
 use Rattle.ir_text.specs.Tokens.{Lexeme, Placed, Lexed}
 use Rattle.ir_text.specs.Listed.{word, sign}
 use Rattle.ir_text.specs.Language.{Language, ◌·◌, keyword}

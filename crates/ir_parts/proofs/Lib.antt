@@ -1,6 +1,7 @@
 pub mod Readers
 pub mod Repeated
 pub mod Combined
+pub mod Together
 pub mod SingleTokens
 pub mod Places
 pub mod Loops

@@ -4,4 +4,5 @@ pub mod TypeReading
 pub mod BracketsReading
 pub mod WordsReading
 pub mod MetadataReading
+pub mod ListReading
 pub mod Sentences

@@ -1,7 +1,6 @@
 -- Reading from the front of a list of tokens: what was read, and the tokens that are left; or, where the first of them
--- can't
--- go on, how many are left from it on, which is 0 at the end.
-use Rattle.std.specs.Prelude.{◌≡◌, ℕ, ◌-◌, ◌≤◌, zero, suc, Bool, true, false, ◌&&◌, if◌then◌else◌, List, [], ◌∷◌, length, drop, Option, Some, None, Result, Ok, Err}
+-- can't go on, how many are left from it on, which is 0 at the end.
+use Rattle.std.specs.Prelude.{◌≡◌, ℕ, ◌-◌, ◌≤◌, zero, suc, Bool, true, false, ◌&&◌, if◌then◌else◌, List, [], ◌∷◌, length, drop, take, Option, Some, None, Result, Ok, Err}
 use Rattle.std.specs.Str.{bytes_eq}
 use Rattle.ir_text.specs.declared.token.TokenKind.{TokenKind}
 use Rattle.ir_text.specs.declared.token.TokenKind.TheVariants.{Word}
@@ -32,6 +31,28 @@ go_on (Err left) f = Err left
 infixl 10 ◌>>=◌
 abbrev pub ◌>>=◌ : {A B : Type 0} → Read A → (A → Read B) → Read B
 (a >>= f) ts = go_on (a ts) f
+
+-- both, one after the other
+infixr 20 ◌⊗◌
+abbrev pub ◌⊗◌ : {A B : Type 0} → Read A → Read B → Read (A × B)
+a ⊗ b = a >>= λ x. b >>= λ y. pure (x, y)
+
+-- what says nothing, and then something; and the other way round
+infixr 20 ◌▷◌
+abbrev pub ◌▷◌ : {B : Type 0} → Read (Unit {0}) → Read B → Read B
+a ▷ b = a >>= λ _. b
+
+infixr 20 ◌◁◌
+abbrev pub ◌◁◌ : {A : Type 0} → Read A → Read (Unit {0}) → Read A
+a ◁ b = a >>= λ x. b >>= λ _. pure x
+
+-- what is made of it
+abbrev pub made : {A B : Type 0} → (A → B) → Read A → Read B
+made make a = a >>= λ x. pure (make x)
+
+-- it, and the tokens that it took
+unfoldable pub taking : {A : Type 0} → Read A → Read (A × List Lexeme)
+taking a ts = go_on (a ts) (λ x rest. Ok ((x, take (length ts - length rest) ts), rest))
 
 -- what the first token is, where it is of a kind
 abbrev pub given : {A : Type 0} → Option A → List Lexeme → ℕ → Result (A × List Lexeme) ℕ

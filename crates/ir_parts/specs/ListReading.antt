@@ -1,0 +1,29 @@
+-- Reading lists: things with commas between them, and things that stand each behind a comma, before attachments.
+use Rattle.std.specs.Prelude.{ℕ, zero, suc, Bool, ◌&&◌, not, if◌then◌else◌, List, [], ◌∷◌, length, drop}
+use Rattle.ir_text.specs.Tokens.{Lexeme}
+use Rattle.ir_parts.specs.Reading.{Read, ◌>>=◌, pure, ◌⊗◌, ◌▷◌, ◌◁◌, made, begins, is_punctuation, punctuation_at, choose, repeated_at}
+use Rattle.ir_parts.specs.MetadataReading.{is_metadata, attachments_at}
+
+-- one thing or more, with commas between them
+unfoldable pub with_commas_at : {A : Type 0} → Read A → Read (List A)
+with_commas_at item = made (λ p. p.0 ∷ p.1) (item ⊗ repeated_at (is_punctuation 44) (punctuation_at 44 ▷ item))
+
+-- any number of things with commas between them, and the sign behind them
+unfoldable pub listed_at : {A : Type 0} → Read A → ℕ → Read (List A)
+listed_at item closing = choose (is_punctuation closing) (punctuation_at closing ▷ pure [])
+    (with_commas_at item ◁ punctuation_at closing)
+
+-- Whether a thing stands next, behind a comma: metadata behind a comma is an attachment.
+abbrev pub begins_part : List Lexeme → Bool
+begins_part ts = begins (is_punctuation 44) ts && not (begins is_metadata (drop 1 ts))
+
+-- things behind commas, at most so many, and then attachments
+unfoldable pub parts_at : {A : Type 0} → Read A → ℕ → Read (List A)
+parts_at item zero ts = (attachments_at ▷ pure []) ts
+parts_at item (suc most) ts =
+    if begins_part ts then (punctuation_at 44 ▷ item >>= λ x. made (λ xs. x ∷ xs) (parts_at item most)) ts
+    else (attachments_at ▷ pure []) ts
+
+-- any number of them
+abbrev pub all_parts_at : {A : Type 0} → Read A → Read (List A)
+all_parts_at item ts = parts_at item (length ts) ts
