@@ -1,5 +1,6 @@
 pub mod Readers
 pub mod Repeated
+pub mod UntilReader
 pub mod Combined
 pub mod Together
 pub mod SingleTokens

@@ -1,5 +1,5 @@
 -- Reading lists: things with commas between them, and things that stand each behind a comma, before attachments.
-use Rattle.std.specs.Prelude.{ℕ, zero, suc, Bool, ◌&&◌, not, if◌then◌else◌, List, [], ◌∷◌, length, drop}
+use Rattle.std.specs.Prelude.{ℕ, zero, suc, Bool, ◌&&◌, not, if◌then◌else◌, List, [], ◌∷◌, length, drop, Result, Ok, Err}
 use Rattle.ir_text.specs.Tokens.{Lexeme}
 use Rattle.ir_parts.specs.Reading.{Read, ◌>>=◌, pure, ◌⊗◌, ◌▷◌, ◌◁◌, made, begins, is_punctuation, punctuation_at, choose, repeated_at}
 use Rattle.ir_parts.specs.MetadataReading.{is_metadata, attachments_at}
@@ -27,3 +27,13 @@ parts_at item (suc most) ts =
 -- any number of them
 abbrev pub all_parts_at : {A : Type 0} → Read A → Read (List A)
 all_parts_at item ts = parts_at item (length ts) ts
+
+-- things one after another, to the first that is a last one; at most so many
+unfoldable pub until_at : {A : Type 0} → (A → Bool) → Read A → ℕ → Read (List A)
+until_at last item zero ts = Err (length ts)
+until_at last item (suc most) ts =
+    (item >>= λ x. if last x then pure (x ∷ []) else made (λ xs. x ∷ xs) (until_at last item most)) ts
+
+-- any number of them
+abbrev pub all_until_at : {A : Type 0} → (A → Bool) → Read A → Read (List A)
+all_until_at last item ts = until_at last item (suc (length ts)) ts
