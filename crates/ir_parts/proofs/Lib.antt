@@ -1,6 +1,7 @@
 pub mod Readers
 pub mod Repeated
 pub mod UntilReader
+pub mod UpToReader
 pub mod Combined
 pub mod Together
 pub mod SingleTokens

@@ -5,7 +5,7 @@ use Rattle.ir_text.specs.Tokens.{Lexeme}
 use Rattle.ir_text.specs.Language.{Language, ◌·◌}
 use Rattle.ir_parts.specs.Reading.{Read, go_on, ◌>>=◌, pure, made}
 use Rattle.ir_parts.specs.ListReading.{until_at, all_until_at}
-use Rattle.ir_parts.proofs.Readers.{StopsAt, Taken, IsReader, stops_before, stops_instead, in_two_parts, both_read, one_refused, same_read, either}
+use Rattle.ir_parts.proofs.Readers.{StopsAt, Taken, IsReader, stops_also, stops_before, stops_instead, in_two_parts, both_read, one_refused, same_read, either}
 
 -- Sentences one after another, of which the last is of a last thing, and none before it.
 abbrev pub UntilLast : {A : Type 0} → (A → Bool) → (A → Language) → List A → Language
@@ -14,16 +14,15 @@ UntilLast last L (x ∷ []) ts = (last x ≡ true) × L x ts
 UntilLast last L (x ∷ y ∷ ys) ts = (last x ≡ false) × (L x · UntilLast last L (y ∷ ys)) ts
 
 -- what doesn't continue the last of them
-abbrev pub StopsLast : {A : Type 0} → (A → Lexeme → Type 0) → List A → Lexeme → Type 0
-StopsLast Stop [] t = Unit {0}
-StopsLast Stop (x ∷ []) t = Stop x t
-StopsLast Stop (x ∷ y ∷ ys) t = StopsLast Stop (y ∷ ys) t
+abbrev pub StopsLast : {A : Type 0} → (A → Bool) → (A → Lexeme → Type 0) → List A → Lexeme → Type 0
+StopsLast last Stop [] t = Unit {0}
+StopsLast last Stop (x ∷ []) t = last x ≡ true → Stop x t
+StopsLast last Stop (x ∷ y ∷ ys) t = StopsLast last Stop (y ∷ ys) t
 
--- no list is a list with something before the last
-stops_later : {A : Type 0} (Stop : A → Lexeme → Type 0) (x : A) (xs : List A) (ts : List Lexeme)
-    → (xs ≡ [] → ⊥) → StopsAt (StopsLast Stop xs) ts → StopsAt (StopsLast Stop (x ∷ xs)) ts
-stops_later Stop x [] ts some stops = absurd (some refl)
-stops_later Stop x (y ∷ ys) ts some stops = stops
+stops_later : {A : Type 0} (last : A → Bool) (Stop : A → Lexeme → Type 0) (x : A) (xs : List A) (ts : List Lexeme)
+    → (xs ≡ [] → ⊥) → StopsAt (StopsLast last Stop xs) ts → StopsAt (StopsLast last Stop (x ∷ xs)) ts
+stops_later last Stop x [] ts some stops = absurd (some refl)
+stops_later last Stop x (y ∷ ys) ts some stops = stops
 
 until_later : {A : Type 0} (last : A → Bool) (L : A → Language) (x : A) (xs : List A) (ts us vs : List Lexeme)
     → ts ≡ us ++ vs → last x ≡ false → L x us → UntilLast last L xs vs → UntilLast last L (x ∷ xs) ts
@@ -77,29 +76,29 @@ module _ {X : Type 0} (last : X → Bool) {item : Read X} {L : X → List Lexeme
   -- ---- what was taken
 
   takes_most : (most : ℕ) (ts rest : List Lexeme) (xs : List X) → until_at last item most ts ≡ Ok (xs, rest)
-      → Taken (UntilLast last L) (StopsLast Stop) ts xs rest
+      → Taken (UntilLast last L) (StopsLast last Stop) ts xs rest
   takes_most zero ts rest xs e = absurd (let e = sym (no_more ts) ∙ e in cc)
   takes_most (suc most) ts rest xs e =
       let b = both_read (item ts) (more_of most) (xs, rest) (sym (one_more most ts) ∙ e) in
       let t = item_reads.takes ts b.middle b.value b.first in
       elim (either (last b.value)) [
         | inl is ↦
-            let found : Taken (UntilLast last L) (StopsLast Stop) ts (b.value ∷ []) b.middle =
-            record { taken = t.taken; parts = t.parts; spelled = (is, t.spelled); stops = t.stops } in
-            subst (λ (read : List X × List Lexeme). Taken (UntilLast last L) (StopsLast Stop) ts read.0 read.1)
+            let found : Taken (UntilLast last L) (StopsLast last Stop) ts (b.value ∷ []) b.middle =
+            record { taken = t.taken; parts = t.parts; spelled = (is, t.spelled); stops = stops_also b.middle (λ u stop e. stop) t.stops } in
+            subst (λ (read : List X × List Lexeme). Taken (UntilLast last L) (StopsLast last Stop) ts read.0 read.1)
             (same_read (b.value ∷ [], b.middle) (xs, rest) (sym (ended most b.value b.middle is) ∙ b.second)) found
         | inr isnt ↦
             let d = both_read (until_at last item most b.middle) (λ xs. pure (b.value ∷ xs)) (xs, rest)
             (sym (goes_on most b.value b.middle isnt) ∙ b.second) in
             let u = takes_most most b.middle d.middle d.value d.first in
-            let found : Taken (UntilLast last L) (StopsLast Stop) ts (b.value ∷ d.value) d.middle = record {
+            let found : Taken (UntilLast last L) (StopsLast last Stop) ts (b.value ∷ d.value) d.middle = record {
               taken = t.taken ++ u.taken;
               parts = in_two_parts ts t.taken u.taken b.middle d.middle t.parts u.parts;
               spelled = until_later last L b.value d.value (t.taken ++ u.taken) t.taken u.taken refl isnt t.spelled
                   u.spelled;
-              stops = stops_later Stop b.value d.value d.middle (some_read last L d.value u.taken u.spelled) u.stops;
+              stops = stops_later last Stop b.value d.value d.middle (some_read last L d.value u.taken u.spelled) u.stops;
             } in
-            subst (λ (read : List X × List Lexeme). Taken (UntilLast last L) (StopsLast Stop) ts read.0 read.1)
+            subst (λ (read : List X × List Lexeme). Taken (UntilLast last L) (StopsLast last Stop) ts read.0 read.1)
             (same_read (b.value ∷ d.value, d.middle) (xs, rest) d.second) found
       ]
 
@@ -111,12 +110,12 @@ module _ {X : Type 0} (last : X → Bool) {item : Read X} {L : X → List Lexeme
       one_more most (taken ++ ts) ∙ ap (λ r. go_on r (more_of most)) (item_reads.reads x taken ts l stops)
 
   reads_most : (xs : List X) (most : ℕ) (taken rest : List Lexeme) → UntilLast last L xs taken
-      → StopsAt (StopsLast Stop xs) rest → length (taken ++ rest) < most
+      → StopsAt (StopsLast last Stop xs) rest → length (taken ++ rest) < most
       → until_at last item most (taken ++ rest) ≡ Ok (xs, rest)
   reads_most [] most taken rest l stops h = absurd l
   reads_most (x ∷ xs) zero taken rest l stops h = absurd (omega arith)
   reads_most (x ∷ []) (suc most) taken rest l stops h =
-      behind_read most x taken rest l.1 stops ∙ ended most x rest l.0
+      behind_read most x taken rest l.1 (stops_also rest (λ t stop. stop l.0) stops) ∙ ended most x rest l.0
   reads_most (x ∷ y ∷ ys) (suc most) taken rest l stops h =
       let parts = l.1 in
       let all : taken ++ rest ≡ parts.0 ++ (parts.1 ++ rest) =
@@ -231,7 +230,7 @@ module _ {X : Type 0} (last : X → Bool) {item : Read X} {L : X → List Lexeme
         ]
   ]
 
-  pub until_reads : IsReader (all_until_at last item) (UntilLast last L) (StopsLast Stop)
+  pub until_reads : IsReader (all_until_at last item) (UntilLast last L) (StopsLast last Stop)
   until_reads = record {
     takes = λ ts rest xs e. takes_most (suc (length ts)) ts rest xs e;
     reads = λ xs taken rest l stops. reads_most xs (suc (length (taken ++ rest))) taken rest l stops (omega arith);

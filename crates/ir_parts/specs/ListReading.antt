@@ -37,3 +37,14 @@ until_at last item (suc most) ts =
 -- any number of them
 abbrev pub all_until_at : {A : Type 0} → (A → Bool) → Read A → Read (List A)
 all_until_at last item ts = until_at last item (suc (length ts)) ts
+
+-- things up to a sign, and the sign; at most so many
+unfoldable pub up_to_at : {A : Type 0} → ℕ → Read A → ℕ → Read (List A)
+up_to_at closing item zero ts = Err (length ts)
+up_to_at closing item (suc most) ts =
+    choose (is_punctuation closing) (punctuation_at closing ▷ pure [])
+    (item >>= λ x. made (λ xs. x ∷ xs) (up_to_at closing item most)) ts
+
+-- any number of them
+abbrev pub all_up_to_at : {A : Type 0} → ℕ → Read A → Read (List A)
+all_up_to_at closing item ts = up_to_at closing item (suc (length ts)) ts
