@@ -4,6 +4,7 @@ pub mod UntilReader
 pub mod UpToReader
 pub mod Combined
 pub mod Together
+pub mod MaybeReader
 pub mod SingleTokens
 pub mod Places
 pub mod Loops
