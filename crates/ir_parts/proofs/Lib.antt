@@ -2,6 +2,7 @@ pub mod Readers
 pub mod Repeated
 pub mod UntilReader
 pub mod UpToReader
+pub mod ToEndReader
 pub mod Combined
 pub mod Together
 pub mod MaybeReader

@@ -1,9 +1,9 @@
 -- One reading after another, where the second may take nothing: then what stands behind mustn't continue the first.
-use Rattle.std.proofs.Common.{◌≡◌, ℕ, suc, List, [], ◌∷◌, ◌++◌, length, Result, Ok, Err, ◌⊎◌, inl, inr, refl, sym, ap, subst, ◌∙◌, append_assoc}
+use Rattle.std.proofs.Common.{◌≡◌, ℕ, List, [], ◌∷◌, ◌++◌, Result, Ok, ◌⊎◌, inl, inr, refl, sym, ap, subst, ◌∙◌, append_assoc}
 use Rattle.ir_text.specs.Tokens.{Lexeme}
 use Rattle.ir_text.specs.Language.{Language, ◌·◌}
 use Rattle.ir_parts.specs.Reading.{Read, go_on, ◌>>=◌, pure, ◌⊗◌}
-use Rattle.ir_parts.proofs.Readers.{StopsAt, Taken, Refused, BothRead, IsReader, stops_before, stops_instead, in_two_parts, both_read, one_refused, same_read}
+use Rattle.ir_parts.proofs.Readers.{StopsAt, Taken, Refused, IsReader, stops_before, stops_instead, in_two_parts, both_read, one_refused, same_read}
 
 module _ {X Y : Type 0} {a : Read X} {b : Read Y} {A : X → Language} {B : Y → Language}
     {StopA : X → Lexeme → Type 0} {StopB : Y → Lexeme → Type 0} (took : Y → Type 0)

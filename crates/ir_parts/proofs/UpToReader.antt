@@ -3,9 +3,9 @@ use Rattle.std.proofs.Common.{◌≡◌, ℕ, zero, suc, Bool, true, false, if�
 use Rattle.ir_text.specs.Tokens.{Lexeme}
 use Rattle.ir_text.specs.Listed.{sign, InSequence}
 use Rattle.ir_text.specs.Language.{Language, ◌·◌, punctuation}
-use Rattle.ir_parts.specs.Reading.{Read, go_on, ◌>>=◌, pure, ◌▷◌, made, begins, is_punctuation, punctuation_at, choose}
+use Rattle.ir_parts.specs.Reading.{Read, go_on, pure, ◌▷◌, made, begins, is_punctuation, punctuation_at, choose}
 use Rattle.ir_parts.specs.ListReading.{until_at, all_until_at, up_to_at, all_up_to_at}
-use Rattle.ir_parts.proofs.Readers.{StopsAt, IsReader, Anything, of_language, of_reading, mapped, chosen, chosen_first, chosen_other, either, begins_still, stops_at_all}
+use Rattle.ir_parts.proofs.Readers.{StopsAt, IsReader, Anything, of_language, of_reading, mapped, chosen, either}
 use Rattle.ir_parts.proofs.Combined.{not_at_first, pure_reads}
 use Rattle.ir_parts.proofs.SingleTokens.{sign_reads, is_sign_itself}
 use Rattle.ir_parts.proofs.UntilReader.{UntilLast, StopsLast, until_reads}
