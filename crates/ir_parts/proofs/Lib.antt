@@ -10,3 +10,4 @@ pub mod Closing
 pub mod Told
 pub mod ClosedReader
 pub mod MetadataReaders
+pub mod ListReaders
