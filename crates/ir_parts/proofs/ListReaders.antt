@@ -1,17 +1,16 @@
 -- Lists are read: things with commas between them, and any number of them before a closing sign.
-use Rattle.std.proofs.Common.{◌≡◌, suc, true, List, [], ◌∷◌, ◌++◌, length, Err, refl, sym, ap, subst, ◌∙◌}
+use Rattle.std.proofs.Common.{◌≡◌, ℕ, suc, Bool, true, false, List, [], ◌∷◌, ◌++◌, length, Err, ◌⊎◌, inl, inr, refl, sym, ap, subst, ◌∙◌, append_assoc}
 use Rattle.std.proofs.lemmas.List.{append-nil}
 use Rattle.ir_text.specs.Tokens.{Lexeme}
 use Rattle.ir_text.specs.Listed.{InSequence, SeparatedByCommas, sign}
-use Rattle.ir_text.specs.Language.{Language, ◌·◌, comma}
-use Rattle.ir_parts.specs.Reading.{Read, ◌▷◌, begins, is_punctuation, punctuation_at}
-use Rattle.ir_parts.specs.ListReading.{with_commas_at}
-use Rattle.ir_parts.proofs.Readers.{IsReader, of_language, mapped}
-use Rattle.ir_parts.proofs.Combined.{behind_token, not_at_first}
+use Rattle.ir_text.specs.Language.{Language, ◌·◌, nothing, comma, punctuation}
+use Rattle.ir_parts.specs.Reading.{Read, pure, ◌▷◌, ◌◁◌, begins, is_punctuation, punctuation_at}
+use Rattle.ir_parts.specs.ListReading.{with_commas_at, listed_at}
+use Rattle.ir_parts.proofs.Readers.{StopsAt, IsReader, Anything, of_language, mapped, chosen, stops_also}
+use Rattle.ir_parts.proofs.Combined.{pure_reads, behind_token, stands_for, before_stopping, not_at_first}
 use Rattle.ir_parts.proofs.Together.{both_until}
 use Rattle.ir_parts.proofs.Repeated.{BehindLast, behind_later, repeated_by_last, stops_with_more, next_stops}
 use Rattle.ir_parts.proofs.SingleTokens.{sign_reads, is_sign_itself}
-use Rattle.ir_parts.proofs.Readers.{stops_also}
 
 -- The token is no comma, and doesn't continue the last thing.
 abbrev pub StopLast : {X : Type 0} → (X → Lexeme → Type 0) → List X → Lexeme → Type 0
@@ -99,3 +98,77 @@ module _ {X : Type 0} {item : Read X} {L : X → Language} {Stop : X → Lexeme 
         next_stops (is_punctuation 44) Stop behind_comma begins_comma comma_stops comma_taken x xs taken rest l stops,
         stops_also rest (behind_later (is_punctuation 44) Stop x xs) stops,
       ))))
+
+-- ---- any number of them, and a closing sign
+
+-- things with commas between them, any number
+abbrev pub AnyWithCommas : {X : Type 0} → (X → Language) → List X → Language
+AnyWithCommas L [] = nothing
+AnyWithCommas L (x ∷ xs) = SeparatedByCommas L (x ∷ xs)
+
+module _ {X : Type 0} {item : Read X} {L : X → Language} {Stop : X → Lexeme → Type 0} (closing : ℕ)
+    (item_reads : IsReader item L Stop)
+    (comma_stops : (x : X) (t : Lexeme) → is_punctuation 44 t ≡ true → Stop x t)
+    (closing_stops : (x : X) (t : Lexeme) → is_punctuation closing t ≡ true → Stop x t)
+    (closing_apart : is_punctuation 44 (sign closing) ≡ false)
+    (never_closing : (x : X) (ts rest : List Lexeme) → L x ts → begins (is_punctuation closing) (ts ++ rest) ≡ false)
+    where
+  none_closed : IsReader (punctuation_at closing ▷ pure []) (λ (xs : List X) ts. (xs ≡ []) × punctuation closing ts)
+      Anything
+  none_closed = stands_for [] (sign_reads closing)
+
+  closing_stops_last : (xs : List X) → StopLast Stop xs (sign closing)
+  closing_stops_last [] = closing_apart
+  closing_stops_last (x ∷ []) = (closing_apart, closing_stops x (sign closing) (is_sign_itself closing))
+  closing_stops_last (x ∷ y ∷ xs) = closing_stops_last (y ∷ xs)
+
+  closed_there : (xs : List X) (taken rest : List Lexeme) → punctuation closing taken
+      → StopsAt (StopLast Stop xs) (taken ++ rest)
+  closed_there xs taken rest l =
+      subst (λ (ts : List Lexeme). StopsAt (StopLast Stop xs) (ts ++ rest)) (sym l) (closing_stops_last xs)
+
+  some_closed : IsReader (with_commas_at item ◁ punctuation_at closing)
+      (λ xs. SeparatedByCommas L xs · punctuation closing) Anything
+  some_closed = before_stopping (with_commas_read item_reads comma_stops) (sign_reads closing) closed_there
+
+  never_first : (xs : List X) (taken rest : List Lexeme) → SeparatedByCommas L xs taken
+      → begins (is_punctuation closing) (taken ++ rest) ≡ false
+  never_first [] taken rest l = absurd l
+  never_first (x ∷ []) taken rest l = never_closing x taken rest l
+  never_first (x ∷ y ∷ ys) taken rest l =
+      ap (begins (is_punctuation closing))
+      (ap (λ (ts : List Lexeme). ts ++ rest) l.2 ∙ append_assoc l.0 (sign 44 ∷ l.1) rest)
+      ∙ never_closing x l.0 (sign 44 ∷ (l.1 ++ rest)) l.3
+
+  never_first_closed : (xs : List X) (taken rest : List Lexeme) → (SeparatedByCommas L xs · punctuation closing) taken
+      → begins (is_punctuation closing) (taken ++ rest) ≡ false
+  never_first_closed xs taken rest l =
+      ap (begins (is_punctuation closing))
+      (ap (λ (ts : List Lexeme). ts ++ rest) l.2 ∙ append_assoc l.0 l.1 rest)
+      ∙ never_first xs l.0 (l.1 ++ rest) l.3
+
+  closed_first : (xs : List X) (ts : List Lexeme) → (xs ≡ []) × punctuation closing ts
+      → begins (is_punctuation closing) ts ≡ true
+  closed_first xs ts l = rw l.1 (is_sign_itself closing)
+
+  -- one case or the other is either number of things
+  there : (xs : List X) (ts : List Lexeme)
+      → (((xs ≡ []) × punctuation closing ts) ⊎ (SeparatedByCommas L xs · punctuation closing) ts)
+      → (AnyWithCommas L xs · punctuation closing) ts
+  there xs ts (inl l) = rw l.0 ([], ts, refl, refl, l.1)
+  there [] ts (inr l) = absurd l.3
+  there (x ∷ xs) ts (inr l) = l
+
+  back : (xs : List X) (ts : List Lexeme) → (AnyWithCommas L xs · punctuation closing) ts
+      → (((xs ≡ []) × punctuation closing ts) ⊎ (SeparatedByCommas L xs · punctuation closing) ts)
+  back [] ts l =
+      inl (refl, l.2 ∙ ap (λ (us : List Lexeme). us ++ l.1) l.3 ∙ l.4)
+  back (x ∷ xs) ts l = inr l
+
+  pub listed_reads : IsReader (listed_at item closing) (λ xs. AnyWithCommas L xs · punctuation closing) Anything
+  unfolding listed_at
+  listed_reads =
+      of_language (λ xs. AnyWithCommas L xs · punctuation closing) there back
+      (chosen (is_punctuation closing) none_closed some_closed closed_first
+      (λ xs taken rest l stops. never_first_closed xs taken rest l)
+      (λ t ts passed e. not_at_first (is_punctuation closing) (pure_reads []) t ts passed e))
