@@ -11,3 +11,4 @@ pub mod Told
 pub mod ClosedReader
 pub mod MetadataReaders
 pub mod ListReaders
+pub mod PartsReader
