@@ -11,4 +11,5 @@ pub mod Told
 pub mod ClosedReader
 pub mod MetadataReaders
 pub mod ListReaders
+pub mod Decided
 pub mod PartsReader

@@ -1,5 +1,5 @@
 -- Lists are read: things with commas between them, and any number of them before a closing sign.
-use Rattle.std.proofs.Common.{◌≡◌, ℕ, suc, Bool, true, false, List, [], ◌∷◌, ◌++◌, length, Err, ◌⊎◌, inl, inr, refl, sym, ap, subst, ◌∙◌, append_assoc}
+use Rattle.std.proofs.Common.{◌≡◌, ℕ, suc, true, false, List, [], ◌∷◌, ◌++◌, length, Err, ◌⊎◌, inl, inr, refl, sym, ap, subst, ◌∙◌, append_assoc}
 use Rattle.std.proofs.lemmas.List.{append-nil}
 use Rattle.ir_text.specs.Tokens.{Lexeme}
 use Rattle.ir_text.specs.Listed.{InSequence, SeparatedByCommas, sign}
@@ -18,6 +18,7 @@ StopLast Stop = BehindLast (is_punctuation 44) Stop
 
 -- ---- what stands between commas, and behind them
 
+-- the first thing, and others each behind a comma, are things with commas between them
 separated : {X : Type 0} (L : X → Language) (x : X) (xs : List X) (ts : List Lexeme)
     → (L x · InSequence (λ x. comma · L x) xs) ts → SeparatedByCommas L (x ∷ xs) ts
 separated L x [] ts l =
@@ -37,6 +38,7 @@ separated L x (y ∷ ys) ts l =
       separated L y ys inner (part.1, behind.1, refl, part.4, behind.4),
     )
 
+-- and the other way round
 in_sequence : {X : Type 0} (L : X → Language) (x : X) (xs : List X) (ts : List Lexeme)
     → SeparatedByCommas L (x ∷ xs) ts → (L x · InSequence (λ x. comma · L x) xs) ts
 in_sequence L x [] ts l = (ts, [], sym (append-nil ts), l, refl)
@@ -61,9 +63,11 @@ in_sequence L x (y ∷ ys) ts l =
 module _ {X : Type 0} {item : Read X} {L : X → Language} {Stop : X → Lexeme → Type 0}
     (item_reads : IsReader item L Stop)
     (comma_stops : (x : X) (t : Lexeme) → is_punctuation 44 t ≡ true → Stop x t) where
+  -- one thing behind its comma
   behind_comma : IsReader (punctuation_at 44 ▷ item) (λ x. comma · L x) Stop
   behind_comma = behind_token (sign_reads 44) item_reads
 
+  -- it begins with the comma, which is taken
   begins_comma : (x : X) (ts : List Lexeme) → (comma · L x) ts → begins (is_punctuation 44) ts ≡ true
   begins_comma x ts l = rw (l.2, l.3) (is_sign_itself 44)
 
@@ -75,6 +79,7 @@ module _ {X : Type 0} {item : Read X} {L : X → Language} {Stop : X → Lexeme 
   made_of : List X → Language
   made_of xs ts = (p : X × List X) × (xs ≡ p.0 ∷ p.1) × (L p.0 · InSequence (λ x. comma · L x) p.1) ts
 
+  -- which are things with commas between them
   all_separated : (xs : List X) (ts : List Lexeme) → made_of xs ts → SeparatedByCommas L xs ts
   unfolding made_of
   all_separated xs ts l = rw l.1 (separated L l.0.0 l.0.1 ts l.2)
@@ -84,6 +89,7 @@ module _ {X : Type 0} {item : Read X} {L : X → Language} {Stop : X → Lexeme 
   all_in_sequence [] ts l = absurd l
   all_in_sequence (x ∷ xs) ts l = ((x, xs), refl, in_sequence L x xs ts l)
 
+  -- Things with commas between them are read up to what is no comma and doesn't continue the last.
   pub with_commas_read : IsReader (with_commas_at item) (λ xs. SeparatedByCommas L xs) (StopLast Stop)
   unfolding with_commas_at made_of
   with_commas_read =
@@ -113,10 +119,12 @@ module _ {X : Type 0} {item : Read X} {L : X → Language} {Stop : X → Lexeme 
     (closing_apart : is_punctuation 44 (sign closing) ≡ false)
     (never_closing : (x : X) (ts rest : List Lexeme) → L x ts → begins (is_punctuation closing) (ts ++ rest) ≡ false)
     where
+  -- the closing sign alone
   none_closed : IsReader (punctuation_at closing ▷ pure []) (λ (xs : List X) ts. (xs ≡ []) × punctuation closing ts)
       Anything
   none_closed = stands_for [] (sign_reads closing)
 
+  -- the closing sign stops the last thing
   closing_stops_last : (xs : List X) → StopLast Stop xs (sign closing)
   closing_stops_last [] = closing_apart
   closing_stops_last (x ∷ []) = (closing_apart, closing_stops x (sign closing) (is_sign_itself closing))
@@ -127,10 +135,12 @@ module _ {X : Type 0} {item : Read X} {L : X → Language} {Stop : X → Lexeme 
   closed_there xs taken rest l =
       subst (λ (ts : List Lexeme). StopsAt (StopLast Stop xs) (ts ++ rest)) (sym l) (closing_stops_last xs)
 
+  -- one thing or more, and the closing sign
   some_closed : IsReader (with_commas_at item ◁ punctuation_at closing)
       (λ xs. SeparatedByCommas L xs · punctuation closing) Anything
   some_closed = before_stopping (with_commas_read item_reads comma_stops) (sign_reads closing) closed_there
 
+  -- things never begin with the closing sign
   never_first : (xs : List X) (taken rest : List Lexeme) → SeparatedByCommas L xs taken
       → begins (is_punctuation closing) (taken ++ rest) ≡ false
   never_first [] taken rest l = absurd l
@@ -147,11 +157,12 @@ module _ {X : Type 0} {item : Read X} {L : X → Language} {Stop : X → Lexeme 
       (ap (λ (ts : List Lexeme). ts ++ rest) l.2 ∙ append_assoc l.0 l.1 rest)
       ∙ never_first xs l.0 (l.1 ++ rest) l.3
 
+  -- where there are none, it stands first
   closed_first : (xs : List X) (ts : List Lexeme) → (xs ≡ []) × punctuation closing ts
       → begins (is_punctuation closing) ts ≡ true
   closed_first xs ts l = rw l.1 (is_sign_itself closing)
 
-  -- one case or the other is either number of things
+  -- the two cases are one language
   there : (xs : List X) (ts : List Lexeme)
       → (((xs ≡ []) × punctuation closing ts) ⊎ (SeparatedByCommas L xs · punctuation closing) ts)
       → (AnyWithCommas L xs · punctuation closing) ts
@@ -165,6 +176,7 @@ module _ {X : Type 0} {item : Read X} {L : X → Language} {Stop : X → Lexeme 
       inl (refl, l.2 ∙ ap (λ (us : List Lexeme). us ++ l.1) l.3 ∙ l.4)
   back (x ∷ xs) ts l = inr l
 
+  -- Any number of things with commas between them is read up to the closing sign, which nothing continues.
   pub listed_reads : IsReader (listed_at item closing) (λ xs. AnyWithCommas L xs · punctuation closing) Anything
   unfolding listed_at
   listed_reads =

@@ -1,5 +1,5 @@
 -- Things that stand each behind a comma, before attachments, are read.
-use Rattle.std.proofs.Common.{◌≡◌, ℕ, zero, suc, ◌+◌, ◌<◌, ◌≤◌, Bool, true, false, ◌&&◌, not, if◌then◌else◌, List, [], ◌∷◌, ◌++◌, length, drop, Result, Ok, Err, ◌⊎◌, inl, inr, refl, sym, ap, subst, ◌∙◌, append_assoc, arith}
+use Rattle.std.proofs.Common.{◌≡◌, ℕ, zero, suc, ◌+◌, ◌<◌, ◌≤◌, Bool, true, false, ◌&&◌, not, if◌then◌else◌, List, [], ◌∷◌, ◌++◌, length, Result, Ok, Err, ◌⊎◌, inl, inr, refl, sym, ap, subst, ◌∙◌, append_assoc, arith}
 use Rattle.std.proofs.lemmas.Bool.{and_parts}
 use Rattle.std.proofs.lemmas.List.{length-append}
 use Rattle.ir_text.specs.declared.token.TokenKind.TheVariants.{Metadata}
@@ -8,115 +8,19 @@ use Rattle.ir_text.specs.Listed.{InSequence, sign}
 use Rattle.ir_text.specs.Language.{Language, ◌·◌, comma}
 use Rattle.ir_text.specs.PassedOn.{attachments}
 use Rattle.ir_text.specs.Language.Many.{none, more}
-use Rattle.ir_parts.specs.Reading.{Read, go_on, ◌>>=◌, pure, ◌▷◌, made, begins, is_punctuation, punctuation_at, token_at, repeat_at, repeated_at}
-use Rattle.ir_parts.specs.MetadataReading.{is_metadata_kind, is_metadata, attachment_at, attachments_at}
+use Rattle.ir_parts.specs.Reading.{Read, go_on, ◌>>=◌, pure, ◌▷◌, made, begins, is_punctuation, punctuation_at, token_at}
+use Rattle.ir_parts.specs.MetadataReading.{is_metadata_kind, is_metadata, attachments_at}
 use Rattle.ir_parts.specs.ListReading.{begins_part, parts_at, all_parts_at}
-use Rattle.ir_parts.proofs.Readers.{StopsAt, Taken, Refused, IsReader, Anything, of_language, of_reading, mapped, then_reads, either, one_refused, same_parts, in_two_parts}
+use Rattle.ir_parts.proofs.Readers.{StopsAt, Refused, IsReader, Anything, of_language, of_reading, mapped, then_reads, either, same_parts, in_two_parts}
 use Rattle.ir_parts.proofs.Combined.{behind_token, refusal_within}
 use Rattle.ir_parts.proofs.SingleTokens.{both_true, sign_reads, is_sign_itself}
+use Rattle.ir_parts.proofs.Repeated.{none_left}
 use Rattle.ir_parts.proofs.MetadataReaders.{NoComma, attachments_read}
-
--- ---- one of two, by what a list begins with
-
--- The one reading or the other, by a test of what stands there.
-abbrev decide : {X : Type 0} → (List Lexeme → Bool) → Read X → Read X → Read X
-decide test there other ts = if test ts then there ts else other ts
-
-decided_there : {X : Type 0} (test : List Lexeme → Bool) (there other : Read X) (ts : List Lexeme)
-    → test ts ≡ true → decide test there other ts ≡ there ts
-decided_there test there other ts e = ap (λ b. if b then there ts else other ts) e
-
-decided_other : {X : Type 0} (test : List Lexeme → Bool) (there other : Read X) (ts : List Lexeme)
-    → test ts ≡ false → decide test there other ts ≡ other ts
-decided_other test there other ts e = ap (λ b. if b then there ts else other ts) e
-
--- What one of the two readings, chosen where the test gives `side`, refuses is refused by the choice: where the tokens
--- end there, and whatever stands behind the token of the refusal.
-record Remains {X : Type 0} (test : List Lexeme → Bool) (chosen whole : Read X) (side : Bool) : Type 0 where
-  at_end : (before after : List Lexeme) → test (before ++ after) ≡ side
-      → chosen (before ++ after) ≡ Err (length after) → chosen before ≡ Err 0 → whole before ≡ Err 0
-  stays : (before behind instead : List Lexeme) (t : Lexeme) → test (before ++ t ∷ behind) ≡ side
-      → chosen (before ++ t ∷ instead) ≡ Err (suc (length instead)) → test (before ++ t ∷ instead) ≡ side
-
-module _ {X : Type 0} (test : List Lexeme → Bool) {there other : Read X} {A B : X → Language} {Stop : X → Lexeme
-    → Type 0} (there_reads : IsReader there A Stop) (other_reads : IsReader other B Stop)
-    (with_there : (x : X) (taken rest : List Lexeme) → A x taken → StopsAt (Stop x) rest → test (taken ++ rest) ≡ true)
-    (with_other : (x : X) (taken rest : List Lexeme) → B x taken → StopsAt (Stop x) rest → test (taken ++ rest) ≡ false)
-    (there_remains : Remains test there (decide test there other) true)
-    (other_remains : Remains test other (decide test there other) false) where
-  decided_refuses : (ts : List Lexeme) (left : ℕ) → decide test there other ts ≡ Err left
-      → Refused (decide test there other) (λ x ts. A x ts ⊎ B x ts) ts left
-  decided_refuses ts left e = elim (either (test ts)) [
-    | inl passed ↦
-        let r = there_reads.refuses ts left (sym (decided_there test there other ts passed) ∙ e) in
-        let passed_there : test (r.before ++ r.after) ≡ true = ap test (sym r.parts) ∙ passed in
-        record {
-          before = r.before;
-          after = r.after;
-          parts = r.parts;
-          so_many = r.so_many;
-          whole = r.whole;
-          others = r.others;
-          begun = inl r.begun;
-          at_end = there_remains.at_end r.before r.after passed_there
-              (ap there (sym r.parts) ∙ (sym (decided_there test there other ts passed) ∙ e)
-              ∙ ap (λ (n : ℕ). Err n) (sym r.so_many)) r.at_end;
-          stays = λ t behind instead is.
-              decided_there test there other (r.before ++ t ∷ instead)
-              (there_remains.stays r.before behind instead t
-              (ap (λ (after : List Lexeme). test (r.before ++ after)) (sym is) ∙ passed_there)
-              (r.stays t behind instead is))
-              ∙ r.stays t behind instead is;
-        }
-    | inr failed ↦
-        let r = other_reads.refuses ts left (sym (decided_other test there other ts failed) ∙ e) in
-        let failed_there : test (r.before ++ r.after) ≡ false = ap test (sym r.parts) ∙ failed in
-        record {
-          before = r.before;
-          after = r.after;
-          parts = r.parts;
-          so_many = r.so_many;
-          whole = r.whole;
-          others = r.others;
-          begun = inr r.begun;
-          at_end = other_remains.at_end r.before r.after failed_there
-              (ap other (sym r.parts) ∙ (sym (decided_other test there other ts failed) ∙ e)
-              ∙ ap (λ (n : ℕ). Err n) (sym r.so_many)) r.at_end;
-          stays = λ t behind instead is.
-              decided_other test there other (r.before ++ t ∷ instead)
-              (other_remains.stays r.before behind instead t
-              (ap (λ (after : List Lexeme). test (r.before ++ after)) (sym is) ∙ failed_there)
-              (r.stays t behind instead is))
-              ∙ r.stays t behind instead is;
-        }
-  ]
-
-  decided : IsReader (decide test there other) (λ x ts. A x ts ⊎ B x ts) Stop
-  decided = record {
-    takes = λ ts rest x e. elim (either (test ts)) [
-      | inl passed ↦
-          let t = there_reads.takes ts rest x (sym (decided_there test there other ts passed) ∙ e) in
-          record { taken = t.taken; parts = t.parts; spelled = inl t.spelled; stops = t.stops }
-      | inr failed ↦
-          let t = other_reads.takes ts rest x (sym (decided_other test there other ts failed) ∙ e) in
-          record { taken = t.taken; parts = t.parts; spelled = inr t.spelled; stops = t.stops }
-    ];
-    reads = λ x taken rest l stops. elim l [
-      | inl a ↦
-          decided_there test there other (taken ++ rest) (with_there x taken rest a stops)
-          ∙ there_reads.reads x taken rest a stops
-      | inr b ↦
-          decided_other test there other (taken ++ rest) (with_other x taken rest b stops)
-          ∙ other_reads.reads x taken rest b stops
-    ];
-    refuses = decided_refuses;
-    some = other_reads.some;
-    sentence = other_reads.sentence;
-    sample = inr other_reads.sample;
-  }
+use Rattle.ir_parts.proofs.Decided.{decide, decided_there, decided_other, Remains, decided}
 
 -- ---- whether both hold
 
+-- not where one of them fails
 first_false : (a b : Bool) → a ≡ false → (a && b) ≡ false
 first_false false b e = refl
 first_false true b e = absurd cc
@@ -131,6 +35,7 @@ second_false true b e = ap not e
 attachments_alone : {A : Type 0} → Read (List A)
 attachments_alone = attachments_at ▷ pure []
 
+-- they are read, and stand for no things
 alone_reads : {A : Type 0} → IsReader (attachments_alone {A = A}) (λ xs ts. (xs ≡ []) × attachments ts) (λ xs. NoComma
     tt)
 unfolding attachments_alone
@@ -185,12 +90,14 @@ module _ {X : Type 0} {item : Read X} {P : X → Language} (item_reads : IsReade
   Others : ℕ → X → List X → Language
   Others most x xs ts = (ys : List X) × (xs ≡ x ∷ ys) × AtMost P most ys ts
 
+  -- they are read
   others_read : (most : ℕ) → IsReader (parts_at item most) (AtMost P most) (λ xs. NoComma tt)
       → (x : X) → IsReader (with_others most x) (Others most x) (λ xs. NoComma tt)
   unfolding with_others Others
   others_read most rest_reads x =
       mapped (λ xs. x ∷ xs) (λ xs. NoComma tt) (λ xs t stop. stop) (λ xs t stop. stop) rest_reads
 
+  -- a thing behind its comma is read, with what is behind it
   part_reads : (most : ℕ) → IsReader (parts_at item most) (AtMost P most) (λ xs. NoComma tt)
       → IsReader (one_part most) (λ xs ts. (x : X) × ((comma · P x) · Others most x xs) ts) (λ xs. NoComma tt)
   unfolding one_part
@@ -205,6 +112,7 @@ module _ {X : Type 0} {item : Read X} {P : X → Language} (item_reads : IsReade
   comma_passed most t ts e =
       ap (λ b. go_on (go_on (if b then Ok (tt, ts) else Err (suc (length ts))) (λ x. item)) (with_others most)) e
 
+  -- so the comma is taken
   part_never_at_comma : (most : ℕ) → IsReader (parts_at item most) (AtMost P most) (λ xs. NoComma tt)
       → (t : Lexeme) (ts : List Lexeme) → is_punctuation 44 t ≡ true
       → one_part most (t ∷ ts) ≡ Err (suc (length ts)) → ⊥
@@ -220,6 +128,7 @@ module _ {X : Type 0} {item : Read X} {P : X → Language} (item_reads : IsReade
       let failed = no_metadata x [] (record { kind = Metadata; text = [] } ∷ []) l in cc
   never_nothing x (t ∷ taken) rest e l = cc
 
+  -- it isn't read at the end of the tokens
   none_at_end : item [] ≡ Err 0
   none_at_end = go (item []) refl
     where
@@ -234,18 +143,21 @@ module _ {X : Type 0} {item : Read X} {P : X → Language} (item_reads : IsReade
 
   -- ---- where a thing stands next
 
+  -- a thing behind its comma is seen there
   part_there : (x : X) (ts rest : List Lexeme) → (comma · P x) ts → begins_part (ts ++ rest) ≡ true
   part_there x ts rest l =
       ap begins_part (ap (λ (ts : List Lexeme). ts ++ rest) (l.2 ∙ ap (λ (us : List Lexeme). us ++ l.1) l.3))
       ∙ both_true (is_punctuation 44 (sign 44)) (not (begins is_metadata (l.1 ++ rest))) (is_sign_itself 44)
       (ap not (no_metadata x l.1 rest l.4))
 
+  -- the same with what is behind it
   parts_there : (most : ℕ) (xs : List X) (taken rest : List Lexeme)
       → (x : X) × ((comma · P x) · Others most x xs) taken → begins_part (taken ++ rest) ≡ true
   parts_there most xs taken rest l =
       ap begins_part (ap (λ (ts : List Lexeme). ts ++ rest) l.1.2 ∙ append_assoc l.1.0 l.1.1 rest)
       ∙ part_there l.0 l.1.0 (l.1.1 ++ rest) l.1.3
 
+  -- attachments aren't seen as a thing
   attachments_there : (taken rest : List Lexeme) → attachments taken → StopsAt (NoComma tt) rest
       → begins_part (taken ++ rest) ≡ false
   attachments_there taken [] none stops = refl
@@ -254,6 +166,7 @@ module _ {X : Type 0} {item : Read X} {P : X → Language} (item_reads : IsReade
       rw (parts, first.2, first.3, first.4.2, first.4.3.1)
       (second_false (is_punctuation 44 (sign 44)) (is_metadata first.4.3.0) (ap is_metadata_kind first.4.3.2.0))
 
+  -- what is refused in or behind a thing is refused by the choice
   part_remains : (most : ℕ) → IsReader (parts_at item most) (AtMost P most) (λ xs. NoComma tt)
       → Remains begins_part (one_part most) (decide begins_part (one_part most) attachments_alone) true
   part_remains most rest_reads = record { at_end = at_end; stays = stays }
@@ -278,6 +191,7 @@ module _ {X : Type 0} {item : Read X} {P : X → Language} (item_reads : IsReade
       stays (a ∷ []) behind instead t passed refused = passed
       stays (a ∷ b ∷ before) behind instead t passed refused = passed
 
+  -- what is refused in attachments is refused by the choice
   alone_remains : (most : ℕ)
       → Remains begins_part attachments_alone (decide begins_part (one_part most) attachments_alone) false
   alone_remains most = record { at_end = at_end; stays = stays }
@@ -311,6 +225,7 @@ module _ {X : Type 0} {item : Read X} {P : X → Language} (item_reads : IsReade
 
   -- ---- at most so many
 
+  -- where none may stand
   none_there : (xs : List X) (ts : List Lexeme) → (xs ≡ []) × attachments ts → AtMost P 0 xs ts
   none_there xs ts l = rw l.0 (omega arith, ([], ts, refl, refl, l.1))
 
@@ -321,6 +236,7 @@ module _ {X : Type 0} {item : Read X} {P : X → Language} (item_reads : IsReade
   )
   none_back (x ∷ xs) ts l = absurd (let many = l.0 in omega arith)
 
+  -- where one more may stand
   more_there : (most : ℕ) (xs : List X) (ts : List Lexeme)
       → ((x : X) × ((comma · P x) · Others most x xs) ts) ⊎ ((xs ≡ []) × attachments ts) → AtMost P (suc most) xs ts
   unfolding Others
@@ -361,6 +277,7 @@ module _ {X : Type 0} {item : Read X} {P : X → Language} (item_reads : IsReade
         ),
       )
 
+  -- At most so many things, each behind a comma, and attachments are read up to what is no comma.
   pub parts_read : (most : ℕ) → IsReader (parts_at item most) (AtMost P most) (λ xs. NoComma tt)
   unfolding parts_at one_part with_others attachments_alone
   parts_read zero =
@@ -372,3 +289,104 @@ module _ {X : Type 0} {item : Read X} {P : X → Language} (item_reads : IsReade
       (λ xs taken rest l stops. parts_there most xs taken rest l)
       (λ xs taken rest l stops. attachments_there taken rest l.1 stops)
       (part_remains most (parts_read most)) (alone_remains most)))
+
+  -- ---- any number of them
+
+  -- a thing takes its comma at least
+  one_token : (x : X) (ts rest : List Lexeme) → (comma · P x) ts → length rest < length (ts ++ rest)
+  one_token x ts rest l =
+      omega (arith, length-append ts rest, ap length l.2, length-append l.0 l.1, ap length l.3)
+
+  -- the two cases of the reading
+  no_part : (most : ℕ) (ts : List Lexeme) → begins_part ts ≡ false → parts_at item most ts ≡ attachments_alone ts
+  unfolding parts_at one_part with_others attachments_alone
+  no_part zero ts failed = refl
+  no_part (suc most) ts failed = decided_other begins_part (one_part most) attachments_alone ts failed
+
+  a_part : (most : ℕ) (ts : List Lexeme) → begins_part ts ≡ true → parts_at item (suc most) ts ≡ one_part most ts
+  unfolding parts_at one_part with_others attachments_alone
+  a_part most ts passed = decided_there begins_part (one_part most) attachments_alone ts passed
+
+  -- What is the same for shorter lists is so for a thing and those behind it.
+  same_others : (most other : ℕ) (ts : List Lexeme)
+      → ((rest : List Lexeme) → length rest < length ts → parts_at item most rest ≡ parts_at item other rest)
+      → (r : Result (X × List Lexeme) ℕ) → (punctuation_at 44 ▷ item) ts ≡ r → one_part most ts ≡ one_part other ts
+  unfolding one_part with_others
+  same_others most other ts shorter (Err left) e =
+      ap (λ r. go_on r (with_others most)) e ∙ sym (ap (λ r. go_on r (with_others other)) e)
+  same_others most other ts shorter (Ok read) e =
+      let t = (behind_token (sign_reads 44) item_reads).takes ts read.1 read.0 e in
+      ap (λ r. go_on r (with_others most)) e
+      ∙ (ap (λ r. go_on r (λ xs. pure (read.0 ∷ xs)))
+      (shorter read.1 (omega (arith, one_token read.0 t.taken read.1 t.spelled, ap length t.parts)))
+      ∙ sym (ap (λ r. go_on r (with_others other)) e))
+
+  -- As many as there are tokens are enough: whatever is more gives the same.
+  enough : (most other : ℕ) (ts : List Lexeme) → length ts ≤ most → length ts ≤ other
+      → parts_at item most ts ≡ parts_at item other ts
+  enough zero other ts h k =
+      let failed : begins_part ts ≡ false = ap begins_part (none_left ts h) in
+      no_part zero ts failed ∙ sym (no_part other ts failed)
+  enough (suc most) zero ts h k =
+      let failed : begins_part ts ≡ false = ap begins_part (none_left ts k) in
+      no_part (suc most) ts failed ∙ sym (no_part zero ts failed)
+  enough (suc most) (suc other) ts h k = elim (either (begins_part ts)) [
+    | inl passed ↦
+        a_part most ts passed
+        ∙ (same_others most other ts (λ rest less. enough most other rest (omega arith) (omega arith))
+        ((punctuation_at 44 ▷ item) ts) refl
+        ∙ sym (a_part other ts passed))
+    | inr failed ↦ no_part (suc most) ts failed ∙ sym (no_part (suc other) ts failed)
+  ]
+
+  -- there are no more things than tokens
+  fewer_things : (xs : List X) (ts : List Lexeme) → InSequence (λ x. comma · P x) xs ts → length xs ≤ length ts
+  fewer_things [] ts l = omega arith
+  fewer_things (x ∷ xs) ts l =
+      omega (arith, one_token x l.0 l.1 l.3, fewer_things xs l.1 l.4, ap length l.2)
+
+  -- Any number of things, each behind a comma, and attachments are read up to what is no comma.
+  pub all_parts_read : IsReader (all_parts_at item) (BehindCommas P) (λ xs. NoComma tt)
+  all_parts_read = record {
+    takes = λ ts rest xs e.
+        let t = (parts_read (length ts)).takes ts rest xs e in
+        record { taken = t.taken; parts = t.parts; spelled = t.spelled.1; stops = t.stops };
+    reads = λ xs taken rest l stops.
+        let few : length xs ≤ length (taken ++ rest) =
+        omega (arith, fewer_things xs l.0 l.3, ap length l.2, length-append l.0 l.1, length-append taken rest) in
+        (parts_read (length (taken ++ rest))).reads xs taken rest (few, l) stops;
+    refuses = refused;
+    some = [];
+    sentence = [];
+    sample = ([], [], refl, refl, none);
+  }
+    where
+      refused : (ts : List Lexeme) (left : ℕ) → all_parts_at item ts ≡ Err left
+          → Refused (all_parts_at item) (BehindCommas P) ts left
+      refused ts left e = record {
+        before = r.before;
+        after = r.after;
+        parts = r.parts;
+        so_many = r.so_many;
+        whole = r.whole;
+        others = r.others;
+        begun = r.begun.1;
+        at_end = enough (length r.before) (length ts) r.before (omega arith)
+            (omega (arith, ap length r.parts, length-append r.before r.after)) ∙ r.at_end;
+        stays = stays;
+      }
+        where
+          r : Refused (parts_at item (length ts)) (AtMost P (length ts)) ts left
+          r = (parts_read (length ts)).refuses ts left e
+
+          stays : (t : Lexeme) (behind instead : List Lexeme) → r.after ≡ t ∷ behind
+              → all_parts_at item (r.before ++ t ∷ instead) ≡ Err (suc (length instead))
+          stays t behind instead is =
+              let most : ℕ = length ts + length (r.before ++ t ∷ instead) in
+              let more = (parts_read most).refuses ts left
+              (enough most (length ts) ts (omega arith) (omega arith) ∙ e) in
+              let same = same_parts more.before r.before more.after r.after (sym more.parts ∙ r.parts)
+              (more.so_many ∙ sym r.so_many) in
+              enough (length (r.before ++ t ∷ instead)) most (r.before ++ t ∷ instead) (omega arith) (omega arith)
+              ∙ subst (λ (before : List Lexeme). parts_at item most (before ++ t ∷ instead) ≡ Err (suc (length
+              instead))) same.0 (more.stays t behind instead (same.1 ∙ is))
