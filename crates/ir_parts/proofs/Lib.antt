@@ -10,3 +10,6 @@ pub mod Closing
 pub mod Told
 pub mod ClosedReader
 pub mod MetadataReaders
+pub mod ListReaders
+pub mod Decided
+pub mod PartsReader
