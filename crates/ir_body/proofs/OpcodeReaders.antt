@@ -1,5 +1,5 @@
 -- Opcodes are read.
-use Rattle.std.proofs.Common.{◌≡◌, ℕ, Bool, true, false, ◌&&◌, if◌then◌else◌, List, Option, Some, None, ◌⊎◌, inl, inr, refl, sym, ap, subst, ◌∙◌, codes}
+use Rattle.std.proofs.Common.{◌≡◌, ℕ, Bool, true, false, IsTrue, ◌&&◌, if◌then◌else◌, List, Option, Some, None, ◌⊎◌, inl, inr, refl, sym, ap, subst, ◌∙◌, codes}
 use Rattle.std.specs.Prelude.{not}
 use Rattle.std.specs.Option.{option_and_then, option_or}
 use Rattle.ir_model.specs.declared.op.BinOp.{BinOp}
@@ -7,17 +7,12 @@ use Rattle.ir_model.specs.declared.op.BinOp.TheVariants as binary
 use Rattle.ir_model.specs.declared.op.CastOp.{CastOp}
 use Rattle.ir_model.specs.declared.op.CastOp.TheVariants as cast
 use Rattle.ir_text.specs.Language.{keyword}
-use Rattle.ir_grammar.specs.Operations.{binary_text}
+use Rattle.ir_grammar.specs.Operations.{binary_text, cast_text}
 use Rattle.ir_parts.proofs.Readers.{IsReader, Anything, either}
 use Rattle.ir_body.specs.declared.opcode.Opcode.{Opcode}
-use Rattle.ir_body.specs.declared.opcode.Opcode.TheVariants.{Binary, Cast, Icmp, Select, Phi, Freeze, Alloca, Load, Store, Gep, Tail, Notail, Call, Br, Switch, Ret, Unreachable}
+use Rattle.ir_body.specs.declared.opcode.Opcode.TheVariants.{Binary, Cast, Icmp, Select, Phi, Freeze, Alloca, Load, Store, Gep, Br, Switch, Ret, Unreachable}
 use Rattle.ir_body.specs.Opcodes.{binary_opcodes, value_opcodes, memory_opcodes, ending_opcodes, binary_opcode, value_opcode, memory_opcode, ending_opcode, opcode_of_text, may_have_result, fitting, opcode_of, opcode_at}
 use Rattle.ir_body.proofs.WordReaders.{look_up_gives, words_read}
-
-abbrev pub cast_text : CastOp → List ℕ
-cast_text cast.Zext = codes "zext"
-cast_text cast.Sext = codes "sext"
-cast_text cast.Trunc = codes "trunc"
 
 -- the word of an opcode
 abbrev pub opcode_text : Opcode → List ℕ
@@ -31,9 +26,6 @@ opcode_text Alloca = codes "alloca"
 opcode_text Load = codes "load"
 opcode_text Store = codes "store"
 opcode_text Gep = codes "getelementptr"
-opcode_text Tail = codes "tail"
-opcode_text Notail = codes "notail"
-opcode_text Call = codes "call"
 opcode_text Br = codes "br"
 opcode_text Switch = codes "switch"
 opcode_text Ret = codes "ret"
@@ -41,7 +33,18 @@ opcode_text Unreachable = codes "unreachable"
 
 -- It may stand there, behind a result or where none stands.
 abbrev pub Fits : Bool → Opcode → Type 0
-Fits has_result code = fitting has_result code ≡ Some code
+Fits has_result code = IsTrue has_result → IsTrue (may_have_result code)
+
+fitting_there : (has_result : Bool) (code : Opcode) → fitting has_result code ≡ Some code → Fits has_result code
+fitting_there true code e has = elim (either (may_have_result code)) [
+  | inl may ↦ may
+  | inr not_there ↦ absurd (let none = sym (ap (λ (b : Bool). if not b then None else Some code) not_there) ∙ e in cc)
+]
+fitting_there false code e has = absurd cc
+
+fitting_back : (has_result : Bool) (code : Opcode) → Fits has_result code → fitting has_result code ≡ Some code
+fitting_back true code fits = ap (λ (b : Bool). if not b then None else Some code) (fits refl)
+fitting_back false code fits = refl
 
 fits : (has_result : Bool) (found : Option Opcode) (code : Opcode) → option_and_then (fitting has_result) found
     ≡ Some code
@@ -52,8 +55,8 @@ fits has_result (Some other) code e = elim (either (has_result && not (may_have_
   | inr there ↦
       let same : ◌≡◌ {A = Option Opcode} (Some other) (Some code) =
       sym (ap (λ (b : Bool). if b then None else Some other) there) ∙ e in (
-        subst (λ (o : Option Opcode). option_and_then (fitting has_result) o ≡ o) same
-            (ap (λ (b : Bool). if b then None else Some other) there),
+        fitting_there has_result code (subst (λ (o : Option Opcode). option_and_then (fitting has_result) o ≡ o) same
+            (ap (λ (b : Bool). if b then None else Some other) there)),
         same,
       )
 ]
@@ -88,7 +91,7 @@ text_of_code text code e =
             (refl, (refl, (refl, (refl, (refl, (refl, (refl, tt))))))) found
         | inr e ↦ elim (one_or_other (memory_opcode text) (ending_opcode text) code e) [
           | inl found ↦ look_up_gives (λ text code. text ≡ opcode_text code) memory_opcodes text code
-              (refl, (refl, (refl, (refl, (refl, (refl, (refl, tt))))))) found
+              (refl, (refl, (refl, (refl, tt)))) found
           | inr found ↦ look_up_gives (λ text code. text ≡ opcode_text code) ending_opcodes text code
               (refl, (refl, (refl, (refl, tt)))) found
         ]
@@ -129,9 +132,6 @@ code_of_text Alloca = refl
 code_of_text Load = refl
 code_of_text Store = refl
 code_of_text Gep = refl
-code_of_text Tail = refl
-code_of_text Notail = refl
-code_of_text Call = refl
 code_of_text Br = refl
 code_of_text Switch = refl
 code_of_text Ret = refl
@@ -143,11 +143,7 @@ unfolding opcode_at opcode_of
 opcode_reads has_result = words_read (record {
   there = λ text code e.
       let found = fits has_result (opcode_of_text text) code e in (found.0, text_of_code text code found.1);
-  back = λ code is. ap (option_and_then (fitting has_result)) (code_of_text code) ∙ is;
+  back = λ code is. ap (option_and_then (fitting has_result)) (code_of_text code) ∙ fitting_back has_result code is;
   some = Icmp;
-  is_some = icmp_fits has_result;
+  is_some = λ has. refl;
 })
-  where
-    icmp_fits : (has_result : Bool) → Fits has_result Icmp
-    icmp_fits true = refl
-    icmp_fits false = refl

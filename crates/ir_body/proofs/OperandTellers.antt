@@ -1,7 +1,6 @@
 -- Operands are read.
 use Rattle.std.proofs.Common.{◌≡◌, ℕ, List, [], ◌∷◌, Option, Some, None, inl, inr, refl, sym, ap, subst, ◌∙◌, IsTrue, codes}
 use Rattle.scev_base.specs.declared.ids.BlockId.{BlockId}
-use Rattle.ir_model.specs.declared.types.IrType.{IrType}
 use Rattle.ir_model.specs.declared.op.Operand.{Operand}
 use Rattle.std.specs.Str.Parse.{signed_digits_value}
 use Rattle.scev_base.specs.declared.ids.ValueId.{ValueId}
@@ -17,17 +16,14 @@ use Rattle.ir_text.specs.Written.{Name, Text}
 use Rattle.ir_text.specs.Said.{said_local, said_global}
 use Rattle.ir_text.specs.Mentions as mention
 use Rattle.ir_text.specs.Mentions.{Mention, ◌⊙◌, silent}
-use Rattle.ir_grammar.specs.Operations.{SpellsOperand, SpellsTyped, SpellsPointer, SpellsBlockName, SpellsTarget, SpellsTwo, the_comma}
-use Rattle.ir_parts.specs.Reading.{punctuation_at}
+use Rattle.ir_grammar.specs.Operations.{SpellsOperand, SpellsTyped, SpellsPointer, SpellsBlockName, SpellsTarget, SpellsTwo}
 use Rattle.ir_parts.proofs.Readers.{Anything, of_language, one_reads}
 use Rattle.ir_parts.proofs.TypeReaders.{scalar_types}
-use Rattle.ir_body.specs.declared.operands.Two.{Two}
-use Rattle.ir_body.specs.Telling.{give, ◌>>=◌, silently}
 use Rattle.ir_body.specs.Tables.{look_up}
 use Rattle.ir_body.specs.Operands.{word_operands, word_operand, told_register, told_global, told_word, told_block, operand_of_parts, operand_of, operand_at, typed_at, pointer_at, block_name_at, target_at, two_at}
 use Rattle.ir_body.proofs.SaidNames.{local_there, local_back, global_there, global_back}
 use Rattle.ir_body.proofs.WordReaders.{look_up_gives}
-use Rattle.ir_body.proofs.Tellers.{IsTeller, silent_tells, part_then, skip_then, skip, last_tells, without_unit, word_tells, sign_tells}
+use Rattle.ir_body.proofs.Tellers.{IsTeller, silent_tells, both, skip, made_whole, word_tells, sign_tells}
 
 -- ---- single tokens
 
@@ -211,34 +207,11 @@ target_tells = skip (word_tells (codes "label")) block_name_tells
 
 pub typed_tells : IsTeller typed_at SpellsTyped Anything
 unfolding typed_at
-typed_tells = without_unit (part_then (λ kind. operand_at >>= λ value. give (record { kind = kind; value = value }))
-    (λ typed. typed.kind) (λ typed. Unit {0}) (λ typed. SpellsOperand typed.value) Anything (silent_tells scalar_types)
-    (λ kind. last_tells (λ value. record { kind = kind; value = value }) (λ typed. typed.value)
-    (λ typed. Unit {0} × (typed.kind ≡ kind)) operand_tells (λ value. (tt, refl)) (λ value. refl)
-    (λ typed is. ap (λ (kind : IrType). record { kind = kind; value = typed.value }) is.1)))
+typed_tells = made_whole (λ read. record { kind = read.0; value = read.1 }) (λ typed. (typed.kind, typed.value))
+    SpellsTyped (λ typed. refl) (both (silent_tells scalar_types) operand_tells)
 
 pub two_tells : IsTeller two_at (λ two. SpellsTwo two.kind two.left two.right) Anything
 unfolding two_at
-two_tells = without_unit (part_then
-    (λ kind. operand_at >>= λ left. silently (punctuation_at 44) >>= λ _. operand_at >>= λ right.
-    give (record { kind = kind; left = left; right = right }))
-    (λ two. two.kind) (λ two. Unit {0}) (λ two. SpellsOperand two.left ⊙ (the_comma ⊙ SpellsOperand two.right)) Anything
-    (silent_tells scalar_types)
-    (λ kind. part_then
-    (λ left. silently (punctuation_at 44) >>= λ _. operand_at >>= λ right. give
-    (record { kind = kind; left = left; right = right }))
-    (λ two. two.left) (λ two. Unit {0} × (two.kind ≡ kind))
-    (λ two. the_comma ⊙ SpellsOperand two.right) Anything operand_tells
-    (λ left. skip_then (operand_at >>= λ right. give (record { kind = kind; left = left; right = right }))
-    (λ two. (Unit {0} × (two.kind ≡ kind)) × (two.left ≡ left)) (λ two. SpellsOperand two.right) Anything
-    (sign_tells 44)
-    (last_tells (λ right. record { kind = kind; left = left; right = right }) (λ two. two.right)
-    (λ two. (Unit {0} × (two.kind ≡ kind)) × (two.left ≡ left)) operand_tells (λ right. ((tt, refl), refl))
-    (λ right. refl)
-    (λ two is. same_two kind left two is.0.1 is.1)))))
-  where
-    same_two : (kind : IrType) (left : Operand) (two : Two) → two.kind ≡ kind → two.left ≡ left
-        → ◌≡◌ {A = Two} two (record { kind = kind; left = left; right = two.right })
-    same_two kind left two is so =
-        ap (λ (kind : IrType). record { kind = kind; left = two.left; right = two.right }) is
-        ∙ ap (λ (left : Operand). record { kind = kind; left = left; right = two.right }) so
+two_tells = made_whole (λ read. record { kind = read.0; left = read.1.0; right = read.1.1 })
+    (λ two. (two.kind, (two.left, two.right))) (λ two. SpellsTwo two.kind two.left two.right) (λ two. refl)
+    (both (silent_tells scalar_types) (both operand_tells (skip (sign_tells 44) operand_tells)))

@@ -8,73 +8,61 @@ use Rattle.ir_model.specs.declared.op.Operand.{Operand}
 use Rattle.ir_model.specs.declared.op.BinOp.{BinOp}
 use Rattle.ir_model.specs.declared.op.TypedOperand.{TypedOperand}
 use Rattle.ir_model.specs.declared.op.Op.TheVariants.{Binary, Icmp, Freeze, Jump, Branch, Ret}
-use Rattle.ir_text.specs.declared.token.TokenKind.TheVariants.{Word}
 use Rattle.ir_text.specs.Tokens.{Lexeme}
 use Rattle.ir_text.specs.Listed.{word}
-use Rattle.ir_text.specs.Language.{keyword}
 use Rattle.ir_text.specs.Mentions.{Mention, Mentioning, ◌⊙◌, silent}
 use Rattle.ir_grammar.specs.Operations.{flag_kind, SpellsBinaryFlags, SpellsOperand, SpellsBlockName, SpellsTyped, SpellsTarget, SpellsTwo, the_word, the_comma, dropped_word, pred_text}
-use Rattle.ir_parts.specs.Reading.{Read, punctuation_at, begins, is_keyword}
+use Rattle.ir_parts.specs.Reading.{Read, begins, is_keyword}
 use Rattle.ir_parts.proofs.Readers.{IsReader, StopsAt, Anything, chosen, refused_there}
 use Rattle.ir_parts.proofs.SingleTokens.{is_itself, is_word}
 use Rattle.ir_body.specs.declared.operands.Two.{Two}
 use Rattle.ir_body.specs.declared.flags.Flags.{Flags}
 use Rattle.ir_body.specs.declared.operation.Operation.{Operation}
-use Rattle.ir_body.specs.Telling.{give, ◌>>=◌, silently}
-use Rattle.ir_body.specs.Operands.{block_name_at, target_at, two_at}
+use Rattle.ir_body.specs.Operands.{block_name_at}
 use Rattle.ir_body.specs.Flags.{flags_at}
-use Rattle.ir_body.specs.Plain.{plain, binary_parts_at, binary_at, br_at, ret_at, comparison_parts_at, comparison_at, freeze_at, jump_at, branch_parts_at, branch_at, nothing_returned_at, value_returned_at}
-use Rattle.ir_body.proofs.Tellers.{IsTeller, silent_tells, part_tells, part_then, skip_then, skip, last_tells, made_tells, without_unit, word_tells, sign_tells}
+use Rattle.ir_body.specs.Plain.{plain, binary_at, br_at, ret_at, comparison_at, freeze_at, jump_at, branch_at, nothing_returned_at, value_returned_at}
+use Rattle.ir_body.proofs.Tellers.{IsTeller, IsMade, silent_tells, both, both_told, skip, made_told, word_tells, sign_tells}
 use Rattle.ir_body.proofs.OperandTellers.{operand_tells, block_name_tells, typed_tells, target_tells, two_tells}
 use Rattle.ir_body.proofs.WordReaders.{predicate_reads}
+use Rattle.ir_body.proofs.Firsts.{first_begins_not, word_begins_not}
 use Rattle.ir_body.proofs.DroppedWords.{drop_tells}
 use Rattle.ir_body.proofs.FlagReaders.{NoFlagsBehind, spelled_flags, flags_read, flags_stop, scalar_is_no}
 
 -- ---- operations of two operands
 
-pub binary_parts_tell : (op : BinOp) → IsTeller (binary_parts_at op)
-    (λ read. silent (SpellsBinaryFlags (flag_kind op) (spelled_flags read.0))
-    ⊙ SpellsTwo read.1.kind read.1.left read.1.right) Anything
-unfolding binary_parts_at flags_at
-binary_parts_tell op = without_unit (part_tells (λ flags. two_at >>= λ two. give (flags, two)) (λ read. read.0)
-    (λ read. Unit {0})
-    (λ read. SpellsTwo read.1.kind read.1.left read.1.right) Anything (silent_tells (flags_read (flag_kind op)))
-    (λ flags. last_tells (λ two. (flags, two)) (λ read. read.1) (λ read. Unit {0} × (read.0 ≡ flags)) two_tells
-    (λ two. (tt, refl)) (λ two. refl) (λ read is. ap (λ (flags : Flags). (flags, read.1)) is.1))
-    (λ read ms taken rest l stops.
-    subst (λ (ts : List Lexeme). StopsAt (NoFlagsBehind (flag_kind op) read.0) ts)
-    (sym (ap (λ (ts : List Lexeme). ts ++ rest) l.3.2 ∙ append_assoc l.3.0 l.3.1 rest))
-    (flags_stop (flag_kind op) read.0 read.1.kind l.3.0 (l.3.1 ++ rest) l.3.3.1)))
+abbrev pub SpellsBinary : BinOp → Flags × Two → Mentioning
+SpellsBinary op read = silent (SpellsBinaryFlags (flag_kind op) (spelled_flags read.0))
+    ⊙ SpellsTwo read.1.kind read.1.left read.1.right
 
-pub binary_tells : (op : BinOp) → IsTeller (binary_at op)
-    (λ operation ms ts. (read : Flags × Two)
-    × (operation ≡ plain (Binary op read.0.nuw read.0.nsw read.0.exact read.0.disjoint read.1.kind read.1.left
-    read.1.right))
-    × (silent (SpellsBinaryFlags (flag_kind op) (spelled_flags read.0))
-    ⊙ SpellsTwo read.1.kind read.1.left read.1.right) ms ts)
-    Anything
-unfolding binary_at
-binary_tells op =
-    made_tells (λ read. plain (Binary op read.0.nuw read.0.nsw read.0.exact read.0.disjoint read.1.kind read.1.left
-    read.1.right)) Anything
-    (λ read t stop. tt) (λ read t stop. tt) (binary_parts_tell op)
+abbrev pub make_binary : BinOp → Flags × Two → Operation
+make_binary op read = plain (Binary op read.0.nuw read.0.nsw read.0.exact read.0.disjoint read.1.kind read.1.left
+    read.1.right)
+
+pub binary_tells : (op : BinOp) → IsTeller (binary_at op) (IsMade (make_binary op) (SpellsBinary op)) Anything
+unfolding binary_at flags_at
+binary_tells op = made_told (make_binary op) (λ t. Unit {0})
+    (both_told (silent_tells (flags_read (flag_kind op))) two_tells (λ flags two ms taken rest l stops.
+    subst (λ (ts : List Lexeme). StopsAt (NoFlagsBehind (flag_kind op) flags) ts)
+    (sym (ap (λ (ts : List Lexeme). ts ++ rest) l.3.2 ∙ append_assoc l.3.0 l.3.1 rest))
+    (flags_stop (flag_kind op) flags two.kind l.3.0 (l.3.1 ++ rest) l.3.3.1)))
 
 -- ---- comparisons
 
-pub comparison_parts_tell : IsTeller comparison_parts_at
-    (λ read. silent (dropped_word (codes "samesign"))
-    ⊙ (silent (keyword (pred_text read.0)) ⊙ SpellsTwo read.1.kind read.1.left read.1.right)) Anything
-unfolding comparison_parts_at
-comparison_parts_tell = drop_tells (codes "samesign")
-    (without_unit (part_then (λ predicate. two_at >>= λ two. give (predicate, two)) (λ read. read.0) (λ read. Unit {0})
-    (λ read. SpellsTwo read.1.kind read.1.left read.1.right) Anything (silent_tells predicate_reads)
-    (λ predicate. last_tells (λ two. (predicate, two)) (λ read. read.1)
-    (λ read. Unit {0} × (read.0 ≡ predicate)) two_tells
-    (λ two. (tt, refl)) (λ two. refl) (λ read is. ap (λ (predicate : Pred). (predicate, read.1)) is.1))))
-    (λ read ms taken rest l. rw (l.3.2, l.3.3.1) (no_predicate read.0))
+abbrev pub SpellsComparison : Pred × Two → Mentioning
+SpellsComparison read = silent (dropped_word (codes "samesign"))
+    ⊙ (the_word (pred_text read.0) ⊙ SpellsTwo read.1.kind read.1.left read.1.right)
+
+abbrev pub make_comparison : Pred × Two → Operation
+make_comparison read = plain (Icmp read.0 read.1.kind read.1.left read.1.right)
+
+pub comparison_tells : IsTeller comparison_at (IsMade make_comparison SpellsComparison) Anything
+unfolding comparison_at
+comparison_tells = made_told make_comparison (λ t. Unit {0})
+    (drop_tells (codes "samesign") (both (silent_tells predicate_reads) two_tells)
+    (λ read. first_begins_not (is_keyword (codes "samesign"))
+    (word_begins_not (pred_text read.0) (codes "samesign") (no_predicate read.0))))
   where
-    no_predicate : (predicate : Pred) → is_keyword (codes "samesign")
-        (record { kind = Word; text = pred_text predicate }) ≡ false
+    no_predicate : (predicate : Pred) → bytes_eq (pred_text predicate) (codes "samesign") ≡ false
     no_predicate pred.Eq = refl
     no_predicate pred.Ne = refl
     no_predicate pred.Ugt = refl
@@ -86,76 +74,54 @@ comparison_parts_tell = drop_tells (codes "samesign")
     no_predicate pred.Slt = refl
     no_predicate pred.Sle = refl
 
-pub comparison_tells : IsTeller comparison_at
-    (λ operation ms ts. (read : Pred × Two) × (operation ≡ plain (Icmp read.0 read.1.kind read.1.left read.1.right))
-    × (silent (dropped_word (codes "samesign"))
-    ⊙ (silent (keyword (pred_text read.0)) ⊙ SpellsTwo read.1.kind read.1.left read.1.right)) ms ts) Anything
-unfolding comparison_at
-comparison_tells = made_tells (λ read. plain (Icmp read.0 read.1.kind read.1.left read.1.right)) Anything
-    (λ read t stop. tt) (λ read t stop. tt) comparison_parts_tell
+abbrev pub make_freeze : TypedOperand → Operation
+make_freeze typed = plain (Freeze typed.kind typed.value)
 
-pub freeze_tells : IsTeller freeze_at
-    (λ operation ms ts. (typed : TypedOperand) × (operation ≡ plain (Freeze typed.kind typed.value))
-    × SpellsTyped typed ms ts) Anything
+pub freeze_tells : IsTeller freeze_at (IsMade make_freeze SpellsTyped) Anything
 unfolding freeze_at
-freeze_tells = made_tells (λ typed. plain (Freeze typed.kind typed.value)) Anything (λ typed t stop. tt)
-    (λ typed t stop. tt) typed_tells
+freeze_tells = made_told make_freeze (λ t. Unit {0}) typed_tells
 
 -- ---- ends of blocks
 
-pub jump_tells : IsTeller jump_at
-    (λ operation ms ts. (to : BlockId) × (operation ≡ plain (Jump to)) × SpellsTarget to.0 ms ts) Anything
+abbrev pub make_jump : BlockId → Operation
+make_jump to = plain (Jump to)
+
+abbrev pub SpellsJump : BlockId → Mentioning
+SpellsJump to = SpellsTarget to.0
+
+pub jump_tells : IsTeller jump_at (IsMade make_jump SpellsJump) Anything
 unfolding jump_at
-jump_tells = made_tells (λ to. plain (Jump to)) Anything (λ to t stop. tt) (λ to t stop. tt) target_tells
+jump_tells = made_told make_jump (λ t. Unit {0}) target_tells
 
 abbrev pub SpellsBranch : Operand × (BlockId × BlockId) → Mentioning
 SpellsBranch read = the_word (codes "i1") ⊙ (SpellsOperand read.0 ⊙ (the_comma ⊙ (SpellsTarget read.1.0.0
     ⊙ (the_comma ⊙ SpellsTarget read.1.1.0))))
 
-pub branch_parts_tell : IsTeller branch_parts_at SpellsBranch Anything
-unfolding branch_parts_at
-branch_parts_tell = skip (word_tells (codes "i1"))
-    (without_unit (part_then
-    (λ cond. silently (punctuation_at 44) >>= λ _. target_at >>= λ there. silently (punctuation_at 44) >>= λ _.
-    target_at >>= λ other. give (cond, (there, other)))
-    (λ read. read.0) (λ read. Unit {0})
-    (λ read. the_comma ⊙ (SpellsTarget read.1.0.0 ⊙ (the_comma ⊙ SpellsTarget read.1.1.0))) Anything operand_tells
-    (λ cond. skip_then
-    (target_at >>= λ there. silently (punctuation_at 44) >>= λ _. target_at >>= λ other. give (cond, (there, other)))
-    (λ read. Unit {0} × (read.0 ≡ cond)) (λ read. SpellsTarget read.1.0.0
-    ⊙ (the_comma ⊙ SpellsTarget read.1.1.0)) Anything
-    (sign_tells 44)
-    (part_then (λ there. silently (punctuation_at 44) >>= λ _. target_at >>= λ other. give (cond, (there, other)))
-    (λ read. read.1.0) (λ read. Unit {0} × (read.0 ≡ cond))
-    (λ read. the_comma ⊙ SpellsTarget read.1.1.0) Anything target_tells
-    (λ there. skip_then (target_at >>= λ other. give (cond, (there, other)))
-    (λ read. (Unit {0} × (read.0 ≡ cond)) × (read.1.0 ≡ there)) (λ read. SpellsTarget read.1.1.0) Anything
-    (sign_tells 44)
-    (last_tells (λ other. (cond, (there, other))) (λ read. read.1.1)
-    (λ read. (Unit {0} × (read.0 ≡ cond)) × (read.1.0 ≡ there)) target_tells
-    (λ other. ((tt, refl), refl)) (λ other. refl)
-    (λ read is. ap (λ (cond : Operand). (cond, read.1)) is.0.1
-    ∙ ap (λ (there : BlockId). (cond, (there, read.1.1))) is.1)))))))
+abbrev pub make_branch : Operand × (BlockId × BlockId) → Operation
+make_branch read = plain (Branch read.0 read.1.0 read.1.1)
 
-pub branch_tells : IsTeller branch_at
-    (λ operation ms ts. (read : Operand × (BlockId × BlockId)) × (operation ≡ plain (Branch read.0 read.1.0 read.1.1))
-    × SpellsBranch read ms ts) Anything
+pub branch_tells : IsTeller branch_at (IsMade make_branch SpellsBranch) Anything
 unfolding branch_at
-branch_tells = made_tells (λ read. plain (Branch read.0 read.1.0 read.1.1)) Anything (λ read t stop. tt)
-    (λ read t stop. tt) branch_parts_tell
+branch_tells = made_told make_branch (λ t. Unit {0})
+    (skip (word_tells (codes "i1")) (both operand_tells (skip (sign_tells 44) (both target_tells (skip (sign_tells 44)
+    target_tells)))))
 
-pub value_returned_tells : IsTeller value_returned_at
-    (λ operation ms ts. (typed : TypedOperand) × (operation ≡ plain (Ret (Some typed)))
-    × SpellsTyped typed ms ts) Anything
+abbrev pub make_returned : TypedOperand → Operation
+make_returned typed = plain (Ret (Some typed))
+
+pub value_returned_tells : IsTeller value_returned_at (IsMade make_returned SpellsTyped) Anything
 unfolding value_returned_at
-value_returned_tells = made_tells (λ typed. plain (Ret (Some typed))) Anything (λ typed t stop. tt)
-    (λ typed t stop. tt) typed_tells
+value_returned_tells = made_told make_returned (λ t. Unit {0}) typed_tells
 
-pub nothing_returned_tells : IsTeller nothing_returned_at
-    (λ operation ms ts. (u : Unit {0}) × (operation ≡ plain (Ret None)) × the_word (codes "void") ms ts) Anything
+abbrev pub make_nothing : Unit {0} → Operation
+make_nothing u = plain (Ret None)
+
+abbrev pub SpellsNothing : Unit {0} → Mentioning
+SpellsNothing u = the_word (codes "void")
+
+pub nothing_returned_tells : IsTeller nothing_returned_at (IsMade make_nothing SpellsNothing) Anything
 unfolding nothing_returned_at
-nothing_returned_tells = made_tells (λ u. plain (Ret None)) Anything (λ u t stop. tt) (λ u t stop. tt)
-    (word_tells (codes "void"))
+nothing_returned_tells = made_told make_nothing (λ t. Unit {0}) (word_tells (codes "void"))
 
 -- ---- one of two ends
 
@@ -181,9 +147,8 @@ pub begins_without : (text other : List ℕ) {B : Mentioning} (ms : List Mention
 begins_without text other ms taken rest l apart = rw (l.3.2, l.3.3.1) apart
 
 abbrev pub SpellsBr : Operation → Mentioning
-SpellsBr operation ms ts = ((to : BlockId) × (operation ≡ plain (Jump to)) × SpellsTarget to.0 ms ts)
-    ⊎ ((read : Operand × (BlockId × BlockId)) × (operation ≡ plain (Branch read.0 read.1.0 read.1.1))
-    × SpellsBranch read ms ts)
+SpellsBr operation ms ts = IsMade make_jump SpellsJump operation ms ts
+    ⊎ IsMade make_branch SpellsBranch operation ms ts
 
 pub br_tells : IsTeller br_at SpellsBr Anything
 unfolding br_at
@@ -207,8 +172,8 @@ br_tells = record {
     block = block_name_tells.reader
 
 abbrev pub SpellsRet : Operation → Mentioning
-SpellsRet operation ms ts = ((u : Unit {0}) × (operation ≡ plain (Ret None)) × the_word (codes "void") ms ts)
-    ⊎ ((typed : TypedOperand) × (operation ≡ plain (Ret (Some typed))) × SpellsTyped typed ms ts)
+SpellsRet operation ms ts = IsMade make_nothing SpellsNothing operation ms ts
+    ⊎ IsMade make_returned SpellsTyped operation ms ts
 
 pub ret_tells : IsTeller ret_at SpellsRet Anything
 unfolding ret_at

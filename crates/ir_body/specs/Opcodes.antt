@@ -1,15 +1,21 @@
 -- The words that instructions begin with.
-use Rattle.std.specs.Prelude.{ℕ, Bool, true, false, ◌&&◌, not, if◌then◌else◌, List, [], ◌∷◌, Option, Some, None, codes}
+use Rattle.std.specs.Prelude.{ℕ, Bool, true, false, ◌&&◌, ◌||◌, not, if◌then◌else◌, List, [], ◌∷◌, Option, Some, None, codes}
 use Rattle.std.specs.Option.{option_and_then, option_or}
 use Rattle.scev_base.specs.declared.pred.Pred.{Pred}
 use Rattle.scev_base.specs.declared.pred.Pred.TheVariants as pred
 use Rattle.ir_model.specs.declared.op.BinOp.TheVariants as binary
 use Rattle.ir_model.specs.declared.op.CastOp.TheVariants as cast
 use Rattle.ir_text.specs.Tokens.{Lexeme}
-use Rattle.ir_parts.specs.Reading.{Read, one_at, is_word_kind}
+use Rattle.ir_parts.specs.Reading.{Read, one_at, is_word_kind, is_keyword}
 use Rattle.ir_body.specs.declared.opcode.Opcode.{Opcode}
-use Rattle.ir_body.specs.declared.opcode.Opcode.TheVariants.{Binary, Cast, Icmp, Select, Phi, Freeze, Alloca, Load, Store, Gep, Tail, Notail, Call, Br, Switch, Ret, Unreachable}
+use Rattle.ir_body.specs.declared.opcode.Opcode.TheVariants.{Binary, Cast, Icmp, Select, Phi, Freeze, Alloca, Load, Store, Gep, Br, Switch, Ret, Unreachable}
 use Rattle.ir_body.specs.Tables.{look_up}
+
+-- what a call begins with
+abbrev pub begins_call : Lexeme → Bool
+begins_call t = is_keyword (codes "tail") t || is_keyword (codes "notail") t || is_keyword (codes "call") t
+
+-- ---- the words of the other operations
 
 abbrev pub binary_opcodes : List (List ℕ × Opcode)
 binary_opcodes = (codes "add", Binary binary.Add) ∷ (codes "sub", Binary binary.Sub) ∷ (codes "mul", Binary binary.Mul)
@@ -24,7 +30,7 @@ value_opcodes = (codes "icmp", Icmp) ∷ (codes "zext", Cast cast.Zext) ∷ (cod
 
 abbrev pub memory_opcodes : List (List ℕ × Opcode)
 memory_opcodes = (codes "alloca", Alloca) ∷ (codes "load", Load) ∷ (codes "store", Store) ∷ (codes "getelementptr", Gep)
-    ∷ (codes "tail", Tail) ∷ (codes "notail", Notail) ∷ (codes "call", Call) ∷ []
+    ∷ []
 
 abbrev pub ending_opcodes : List (List ℕ × Opcode)
 ending_opcodes = (codes "br", Br) ∷ (codes "switch", Switch) ∷ (codes "ret", Ret)

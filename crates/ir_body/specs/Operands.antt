@@ -14,10 +14,10 @@ use Rattle.ir_text.specs.Said.{said_local, said_global}
 use Rattle.ir_text.specs.Mentions.{Mention}
 use Rattle.ir_text.specs.Mentions as mention
 use Rattle.ir_parts.specs.TypeReading.{scalar_type_at}
-use Rattle.ir_parts.specs.Reading.{one_at, keyword_at, punctuation_at}
+use Rattle.ir_parts.specs.Reading.{one_at}
 use Rattle.ir_body.specs.declared.operands.Two.{Two}
 use Rattle.ir_body.specs.Tables.{look_up}
-use Rattle.ir_body.specs.Telling.{Telling, give, ◌>>=◌, silently}
+use Rattle.ir_body.specs.Telling.{Telling, ◌⊗◌, ◌▷◌, made, word_at, comma_at, silently}
 
 -- ---- operands
 
@@ -55,15 +55,10 @@ operand_at = one_at operand_of
 
 -- `type v`, and `ptr v`
 unfoldable pub typed_at : Telling TypedOperand
-typed_at = do
-  kind ← silently scalar_type_at
-  value ← operand_at
-  give (record { kind = kind; value = value })
+typed_at = made (λ read. record { kind = read.0; value = read.1 }) (silently scalar_type_at ⊗ operand_at)
 
 unfoldable pub pointer_at : Telling Operand
-pointer_at = do
-  _ ← silently (keyword_at (codes "ptr"))
-  operand_at
+pointer_at = word_at (codes "ptr") ▷ operand_at
 
 -- `%block`, and `label %block`
 abbrev pub told_block : Option Name → Option (BlockId × List Mention)
@@ -73,15 +68,9 @@ unfoldable pub block_name_at : Telling BlockId
 block_name_at = one_at (λ t. told_block (said_local t))
 
 unfoldable pub target_at : Telling BlockId
-target_at = do
-  _ ← silently (keyword_at (codes "label"))
-  block_name_at
+target_at = word_at (codes "label") ▷ block_name_at
 
 -- `type v, v`
 unfoldable pub two_at : Telling Two
-two_at = do
-  kind ← silently scalar_type_at
-  left ← operand_at
-  _ ← silently (punctuation_at 44)
-  right ← operand_at
-  give (record { kind = kind; left = left; right = right })
+two_at = made (λ read. record { kind = read.0; left = read.1.0; right = read.1.1 })
+    (silently scalar_type_at ⊗ operand_at ⊗ comma_at ▷ operand_at)

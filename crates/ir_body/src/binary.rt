@@ -3,10 +3,10 @@
 ghost use Rattle.std.specs.Prelude.{◌≡◌, ◌<◌, ◌≤◌, length, IfOk};
 ghost use Rattle.ir_parts.specs.Reading.{left_from, ReadsAs};
 ghost use Rattle.ir_parts.specs.Places.{mentions_at};
-ghost use Rattle.ir_body.specs.Plain.{binary_parts_at, binary_at, comparison_parts_at, comparison_at, freeze_at};
+ghost use Rattle.ir_body.specs.Plain.{binary_at, comparison_at, freeze_at};
 ghost use Rattle.ir_body.specs.Views.{bare_operation, operation_sites};
 
-use crate::flags::{read_flag, read_flags};
+use crate::flags::{behind_dropped, read_flags};
 use crate::opcode::read_predicate;
 use crate::operands::{read_two, read_typed};
 use crate::operation::Operation;
@@ -17,7 +17,7 @@ use sqlite_items::Items;
 use std::alloc::Global;
 
 /// Flags and two operands.
-#[tactic(auto, unfolding(crate::specs::Plain::binary_at, crate::specs::Plain::binary_parts_at), using(crate::proofs::Told::told))]
+#[tactic(auto, unfolding(crate::specs::Plain::binary_at), using(crate::proofs::Told::told))]
 pub fn read_binary(
     alloc: Global,
     tokens: &Tokens<'_>,
@@ -46,7 +46,7 @@ pub fn read_binary(
 }
 
 /// `samesign` or nothing, a predicate, and two operands.
-#[tactic(auto, unfolding(crate::specs::Plain::comparison_at, crate::specs::Plain::comparison_parts_at), using(crate::proofs::Told::told))]
+#[tactic(auto, unfolding(crate::specs::Plain::comparison_at), using(crate::proofs::Told::told))]
 pub fn read_comparison(
     alloc: Global,
     tokens: &Tokens<'_>,
@@ -57,7 +57,7 @@ pub fn read_comparison(
         (comparison_at (left_from tokens.now from)) }
     ensures forth { IfOk result (λ read. (from < read.1) × (read.1 ≤ length tokens.now.tokens)) }
 {
-    let (_, at) = read_flag(tokens, from, b"samesign");
+    let at = behind_dropped(tokens, from, b"samesign");
     let (pred, at) = read_predicate(tokens, at)?;
     let (two, at) = read_two(tokens, at)?;
     let op = Op::Icmp {

@@ -3,7 +3,7 @@
 ghost use Rattle.std.specs.Prelude.{◌≡◌, ◌<◌, ◌≤◌, length, IfOk};
 ghost use Rattle.ir_parts.specs.Reading.{left_from, ReadsAs};
 ghost use Rattle.ir_parts.specs.Places.{mentions_at};
-ghost use Rattle.ir_body.specs.Plain.{jump_at, branch_parts_at, branch_at, br_at, nothing_returned_at, value_returned_at, ret_at};
+ghost use Rattle.ir_body.specs.Plain.{jump_at, branch_at, br_at, nothing_returned_at, value_returned_at, ret_at};
 ghost use Rattle.ir_body.specs.Views.{bare_operation, operation_sites};
 
 use crate::operands::{read_operand, read_target, read_typed};
@@ -46,7 +46,7 @@ fn jump(alloc: Global, tokens: &Tokens<'_>, from: usize) -> Result<(Operation, u
     Ok((Operation { op, words }, at))
 }
 
-#[tactic(auto, unfolding(crate::specs::Plain::branch_at, crate::specs::Plain::branch_parts_at), using(crate::proofs::Told::told))]
+#[tactic(auto, unfolding(crate::specs::Plain::branch_at), using(crate::proofs::Told::told))]
 fn branch(alloc: Global, tokens: &Tokens<'_>, from: usize) -> Result<(Operation, usize), ItemFault>
     requires { from ≤ length tokens.now.tokens }
     ensures value { ReadsAs (λ x. (bare_operation x, mentions_at tokens.now (operation_sites x))) tokens.now result

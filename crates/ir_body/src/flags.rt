@@ -2,10 +2,10 @@
 
 ghost use Rattle.std.specs.Prelude.{◌≡◌, ◌≤◌, length, Ok};
 ghost use Rattle.ir_parts.specs.Reading.{left_from};
-ghost use Rattle.ir_body.specs.Flags.{flag_at, wraps_at, exact_at, disjoint_at, flags_at};
+ghost use Rattle.ir_body.specs.Flags.{flag_at, dropped_at, wraps_at, exact_at, disjoint_at, flags_at, cast_flags_at};
 
 use ir_lex::Tokens;
-use ir_model::BinOp;
+use ir_model::{BinOp, CastOp};
 use ir_parts::starts_keyword;
 
 /// The flags of an operation of two operands.
@@ -36,6 +36,17 @@ pub(crate) fn read_flag(tokens: &Tokens<'_>, from: usize, text: &[u8]) -> (bool,
     } else {
         (false, from)
     }
+}
+
+/// The place behind the word, where it stands there.
+#[tactic(auto, unfolding(crate::specs::Flags::dropped_at))]
+pub(crate) fn behind_dropped(tokens: &Tokens<'_>, from: usize, text: &[u8]) -> usize
+    requires { from ≤ length tokens.now.tokens }
+    ensures value { dropped_at text.now (left_from tokens.now from) ≡ Ok (tt, left_from tokens.now result) }
+    ensures forth { (from ≤ result) × (result ≤ length tokens.now.tokens) }
+{
+    let (_, at) = read_flag(tokens, from, text);
+    at
 }
 
 /// The flags that stand behind the opcode.
@@ -103,4 +114,22 @@ fn disjoint(tokens: &Tokens<'_>, from: usize) -> (Flags, usize)
 {
     let (disjoint, at) = read_flag(tokens, from, b"disjoint");
     (Flags { disjoint, ..NONE }, at)
+}
+
+/// Whether `nneg` stands behind the opcode of a conversion. The flags of `trunc` are dropped.
+#[tactic(auto, unfolding(crate::specs::Flags::cast_flags_at))]
+pub(crate) fn read_cast_flags(tokens: &Tokens<'_>, from: usize, op: CastOp) -> (bool, usize)
+    requires { from ≤ length tokens.now.tokens }
+    ensures value { cast_flags_at op (left_from tokens.now from) ≡ Ok (result.0, left_from tokens.now result.1) }
+    ensures forth { (from ≤ result.1) × (result.1 ≤ length tokens.now.tokens) }
+{
+    match op {
+        CastOp::Zext => read_flag(tokens, from, b"nneg"),
+        CastOp::Sext => (false, from),
+        CastOp::Trunc => {
+            let at = behind_dropped(tokens, from, b"nuw");
+            let at = behind_dropped(tokens, at, b"nsw");
+            (false, at)
+        }
+    }
 }

@@ -1,15 +1,15 @@
 //! The words that instructions begin with.
 
 ghost use Rattle.std.specs.Prelude.{◌≡◌, ◌+◌, ◌^◌, ◌<◌, ◌≤◌, length, IfOk, IfSome};
-ghost use Rattle.ir_parts.specs.Reading.{left_from, first_given, Reads};
-ghost use Rattle.ir_body.specs.Opcodes.{binary_opcode, value_opcode, memory_opcode, ending_opcode, opcode_of_text, opcode_of, opcode_at, fitting, may_have_result, predicate_of_text, predicate_of, predicate_at};
+ghost use Rattle.ir_parts.specs.Reading.{left_from, first_given, begins, Reads};
+ghost use Rattle.ir_body.specs.Opcodes.{begins_call, binary_opcode, value_opcode, memory_opcode, ending_opcode, opcode_of_text, opcode_of, opcode_at, fitting, may_have_result, predicate_of_text, predicate_of, predicate_at};
 
 use ir_lex::{TokenKind, Tokens};
 use ir_model::{BinOp, CastOp};
-use ir_parts::{ItemFault, next};
+use ir_parts::{ItemFault, next, starts_keyword};
 use scev_base::Pred;
 
-/// What an instruction begins with.
+/// What an operation begins with that is no call.
 #[derive(Clone, Copy, Debug, PartialEq, Eq)]
 pub enum Opcode {
     Binary(BinOp),
@@ -22,15 +22,19 @@ pub enum Opcode {
     Load,
     Store,
     Gep,
-    /// `tail`, which begins a call.
-    Tail,
-    /// `notail`, which begins a call.
-    Notail,
-    Call,
     Br,
     Switch,
     Ret,
     Unreachable,
+}
+
+/// Whether a call begins there: with `tail`, `notail` or `call`.
+pub fn starts_call(tokens: &Tokens<'_>, from: usize) -> bool
+    ensures { result ≡ begins begins_call (left_from tokens.now from) }
+{
+    starts_keyword(tokens, from, b"tail")
+        || starts_keyword(tokens, from, b"notail")
+        || starts_keyword(tokens, from, b"call")
 }
 
 /// The opcode that stands there. Behind a result one that gives none is refused.
@@ -149,12 +153,6 @@ fn memory_opcode(text: &[u8]) -> Option<Opcode>
         Some(Opcode::Store)
     } else if text == b"getelementptr".as_slice() {
         Some(Opcode::Gep)
-    } else if text == b"tail".as_slice() {
-        Some(Opcode::Tail)
-    } else if text == b"notail".as_slice() {
-        Some(Opcode::Notail)
-    } else if text == b"call".as_slice() {
-        Some(Opcode::Call)
     } else {
         None
     }
