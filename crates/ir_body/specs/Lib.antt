@@ -6,3 +6,4 @@ pub mod Flags
 pub mod Plain
 pub mod Values
 pub mod Views
+pub mod Gathered

@@ -1,0 +1,5 @@
+pub mod Silent
+pub mod Arguments
+pub mod Calls
+pub mod Lines
+pub mod Functions
