@@ -1,0 +1,3 @@
+pub mod Refilled
+pub mod OnePlace
+pub mod OneNumbering
