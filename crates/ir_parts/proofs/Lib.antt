@@ -10,3 +10,8 @@ pub mod Closing
 pub mod Told
 pub mod ClosedReader
 pub mod MetadataReaders
+pub mod StringTexts
+pub mod PieceTokens
+pub mod Optional
+pub mod PieceReaders
+pub mod PieceSayings
