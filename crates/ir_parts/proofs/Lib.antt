@@ -15,3 +15,4 @@ pub mod PieceTokens
 pub mod Optional
 pub mod PieceReaders
 pub mod PieceSayings
+pub mod RunReader

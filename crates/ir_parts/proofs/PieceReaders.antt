@@ -30,11 +30,11 @@ use Rattle.ir_parts.proofs.PieceTokens.{IsPassed, passed_there, passed_back, str
 abbrev pub EndsPiece : Ending → Lexeme → Type 0
 EndsPiece ending t = belongs_to ending t ≡ false
 
-or_neither : (a b : Bool) → (a || b) ≡ false → (a ≡ false) × (b ≡ false)
+pub or_neither : (a b : Bool) → (a || b) ≡ false → (a ≡ false) × (b ≡ false)
 or_neither true b e = absurd cc
 or_neither false b e = (refl, e)
 
-neither_or : (a b : Bool) → a ≡ false → b ≡ false → (a || b) ≡ false
+pub neither_or : (a b : Bool) → a ≡ false → b ≡ false → (a || b) ≡ false
 neither_or true b first second = absurd cc
 neither_or false b first second = second
 
