@@ -16,3 +16,4 @@ pub mod Optional
 pub mod PieceReaders
 pub mod PieceSayings
 pub mod RunReader
+pub mod TakingReader
