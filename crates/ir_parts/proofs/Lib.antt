@@ -17,3 +17,4 @@ pub mod PieceReaders
 pub mod PieceSayings
 pub mod RunReader
 pub mod TakingReader
+pub mod Between
