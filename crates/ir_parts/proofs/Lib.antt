@@ -18,3 +18,4 @@ pub mod PieceSayings
 pub mod RunReader
 pub mod TakingReader
 pub mod Between
+pub mod WordsReader

@@ -25,4 +25,4 @@ pub use passed_text::text_between;
 pub use read_types::{
     read_int_type, read_returned_type, read_scalar_type, read_stored_type, read_type,
 };
-pub use runs::run;
+pub use runs::{read_words, run, words};
