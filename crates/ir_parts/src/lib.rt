@@ -9,6 +9,7 @@ mod forms;
 mod metadata;
 mod numbers;
 mod out_of_memory;
+mod passed_text;
 mod passed_words;
 mod pieces;
 mod read_types;
@@ -20,7 +21,8 @@ pub use ending::{Ending, Run};
 pub use fault::ItemFault;
 pub use forms::{inner_text, is_number, is_signed_number, is_string_text};
 pub use metadata::{skip_metadata, skip_pairs};
+pub use passed_text::text_between;
 pub use read_types::{
     read_int_type, read_returned_type, read_scalar_type, read_stored_type, read_type,
 };
-pub use runs::run;
+pub use runs::{read_words, run, words};
