@@ -13,3 +13,4 @@ pub mod MetadataReaders
 pub mod ListReaders
 pub mod Decided
 pub mod PartsReader
+pub mod ListLoops
