@@ -2,4 +2,7 @@
 //! dropped or passed on.
 #![tactic(auto)]
 
+mod layout;
+
 pub use ir_parts::{ItemFault, read_type, skip_metadata};
+pub use layout::layout_fault;

@@ -26,3 +26,4 @@ pub mod RunReader
 pub mod TakingReader
 pub mod Between
 pub mod WordsReader
+pub mod ListLoops

@@ -20,7 +20,8 @@ pub use cursor::{behind_keyword, behind_sign, next, starts_keyword, starts_sign}
 pub use ending::{Ending, Run};
 pub use fault::ItemFault;
 pub use forms::{inner_text, is_number, is_signed_number, is_string_text};
-pub use metadata::{skip_metadata, skip_pairs};
+pub use metadata::{skip_metadata, skip_pairs, starts_part};
+pub use numbers::{are_digits, small_number};
 pub use passed_text::text_between;
 pub use read_types::{
     read_int_type, read_returned_type, read_scalar_type, read_stored_type, read_type,
