@@ -9,6 +9,7 @@ pub mod OpcodeReaders
 pub mod OperandTellers
 pub mod WrapWords
 pub mod FlagReaders
+pub mod FlagWords
 pub mod Firsts
 pub mod DroppedWords
 pub mod PlainTellers

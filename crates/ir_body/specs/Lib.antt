@@ -5,4 +5,5 @@ pub mod Opcodes
 pub mod Flags
 pub mod Plain
 pub mod Values
+pub mod FlagWords
 pub mod Views
