@@ -303,10 +303,10 @@ words_read most ws enough =
       sample = (refl, tt);
     })
 
--- What is none of the words continues none of them.
-pub ends_anyway : (ws found : List (List ℕ)) (t : Lexeme) → AllByRecursion (λ w. is_keyword w t ≡ false) ws
-    → Ends ws found t
-ends_anyway ws [] t none = closed ws none
+-- None of the words stands first.
+pub not_open : (t : Lexeme) (ws : List (List ℕ)) → AllByRecursion (λ w. is_keyword w t ≡ false) ws
+    → is_open ws t ≡ false
+not_open t ws none = closed ws none
   where
     closed : (ws : List (List ℕ)) → AllByRecursion (λ w. is_keyword w t ≡ false) ws → is_open ws t ≡ false
     closed [] none = none_open (t ∷ [])
@@ -327,6 +327,16 @@ ends_anyway ws [] t none = closed ws none
             | inr also ↦ other ∙ sym also
           ]
         ]
+
+pub none_begin : (ws : List (List ℕ)) (ts : List Lexeme)
+    → AllByRecursion (λ w. begins (is_keyword w) ts ≡ false) ws → begins (is_open ws) ts ≡ false
+none_begin ws [] none = refl
+none_begin ws (t ∷ ts) none = not_open t ws none
+
+-- What is none of the words continues none of them.
+pub ends_anyway : (ws found : List (List ℕ)) (t : Lexeme) → AllByRecursion (λ w. is_keyword w t ≡ false) ws
+    → Ends ws found t
+ends_anyway ws [] t none = not_open t ws none
 ends_anyway ws (w ∷ more) t none = ends_anyway (without ws w) more t (none_left ws none)
   where
     none_left : (ws : List (List ℕ)) → AllByRecursion (λ w. is_keyword w t ≡ false) ws
