@@ -7,9 +7,11 @@ pub mod SaidNames
 pub mod WordReaders
 pub mod OpcodeReaders
 pub mod OperandTellers
-pub mod WrapWords
 pub mod FlagReaders
+pub mod FlagWords
+pub mod WordsFirst
 pub mod Firsts
+pub mod FlagTellers
 pub mod DroppedWords
 pub mod PlainTellers
 pub mod ValueTellers

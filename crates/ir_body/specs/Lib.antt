@@ -5,5 +5,6 @@ pub mod Opcodes
 pub mod Flags
 pub mod Plain
 pub mod Values
+pub mod FlagWords
 pub mod Views
 pub mod Gathered
