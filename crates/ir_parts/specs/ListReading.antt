@@ -1,7 +1,7 @@
 -- Reading lists: things with commas between them, and things that stand each behind a comma, before attachments.
 use Rattle.std.specs.Prelude.{ℕ, zero, suc, Bool, ◌&&◌, not, if◌then◌else◌, List, [], ◌∷◌, length, drop, Ok, Err}
 use Rattle.ir_text.specs.Tokens.{Lexeme}
-use Rattle.ir_parts.specs.Reading.{Read, ◌>>=◌, pure, ◌⊗◌, ◌▷◌, ◌◁◌, made, begins, is_punctuation, punctuation_at, choose, repeated_at}
+use Rattle.ir_parts.specs.Reading.{Read, ◌>>=◌, pure, ◌⊗◌, ◌▷◌, ◌◁◌, made, begins, is_punctuation, punctuation_at, choose, refuse, repeated_at}
 use Rattle.ir_parts.specs.MetadataReading.{is_metadata, attachments_at}
 
 -- one thing or more, with commas between them
@@ -49,12 +49,13 @@ up_to_at closing item (suc most) ts =
 abbrev pub all_up_to_at : {A : Type 0} → ℕ → Read A → Read (List A)
 all_up_to_at closing item ts = up_to_at closing item (suc (length ts)) ts
 
--- things one after another to the end of the tokens, at most so many
-unfoldable pub to_end_at : {A : Type 0} → Read A → ℕ → Read (List A)
-to_end_at item most [] = Ok ([], [])
-to_end_at item zero (t ∷ ts) = Err (suc (length ts))
-to_end_at item (suc most) (t ∷ ts) = (item >>= λ x. made (λ xs. x ∷ xs) (to_end_at item most)) (t ∷ ts)
+-- things one after another to the end of the tokens, at most so many; a token that is barred behind a thing is refused
+unfoldable pub to_end_at : {A : Type 0} → (A → Lexeme → Bool) → Read A → ℕ → Read (List A)
+to_end_at barred item most [] = Ok ([], [])
+to_end_at barred item zero (t ∷ ts) = Err (suc (length ts))
+to_end_at barred item (suc most) (t ∷ ts) =
+    (item >>= λ x. choose (barred x) refuse (made (λ xs. x ∷ xs) (to_end_at barred item most))) (t ∷ ts)
 
 -- any number of them
-abbrev pub all_to_end_at : {A : Type 0} → Read A → Read (List A)
-all_to_end_at item ts = to_end_at item (length ts) ts
+abbrev pub all_to_end_at : {A : Type 0} → (A → Lexeme → Bool) → Read A → Read (List A)
+all_to_end_at barred item ts = to_end_at barred item (length ts) ts
