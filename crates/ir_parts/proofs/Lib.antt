@@ -19,3 +19,4 @@ pub mod RunReader
 pub mod TakingReader
 pub mod Between
 pub mod WordsReader
+pub mod RunEnds
