@@ -7,6 +7,7 @@ use Rattle.ir_text.specs.declared.token.TokenKind.TheVariants.{Word, Label, Loca
 use Rattle.ir_text.specs.Names.{is_word}
 use Rattle.ir_text.specs.Tokens.{Lexeme}
 use Rattle.ir_text.specs.Listed.{word, sign}
+use Rattle.ir_text.specs.Language.{Language, ◌·◌, token}
 use Rattle.ir_text.specs.Types.{IsIntType, SpellsType}
 use Rattle.ir_text.specs.PassedOn.{opening_words, left_out_words, is_among}
 use Rattle.ir_parts.specs.declared.ending.Ending.{Ending}
@@ -19,6 +20,8 @@ use Rattle.ir_parts.proofs.MetadataReaders.{word_no_number}
 use Rattle.ir_parts.proofs.PieceTokens.{passed_text_there}
 use Rattle.ir_parts.proofs.PieceReaders.{neither_or}
 use Rattle.ir_parts.proofs.RunReader.{StopsRun, belongs_to_none}
+use Rattle.ir_parts.proofs.WordsReader.{StopsWords}
+use Rattle.ir_parts.proofs.Together.{Ends}
 
 -- ---- every run ends there
 
@@ -53,6 +56,7 @@ ended_at run ts stops = stops_also ts (λ t e. ends_each run.ending t e) stops
 word_ends : (t : Lexeme) → t.kind ≡ Word → is_passed_text t.text ≡ false → ends_run t ≡ true
 word_ends t is e = rw (is, e) refl
 
+-- what is no passed-on word
 not_passed : (text : List ℕ) → (is_passed_text text ≡ true → ⊥) → is_passed_text text ≡ false
 not_passed text other = decide (is_passed_text text) refl
   where
@@ -65,10 +69,12 @@ pub opening_ends : (text : List ℕ) → is_among opening_words text ≡ true �
 opening_ends text opens = word_ends (word text) refl
     (not_passed text (λ e. let other = (passed_text_there text e).no_opening in cc))
 
+-- a word of LLVM IR that is left out
 pub left_out_ends : (text : List ℕ) → is_among left_out_words text ≡ true → ends_run (word text) ≡ true
 left_out_ends text left_out = word_ends (word text) refl
     (not_passed text (λ e. let other = (passed_text_there text e).not_left_out in cc))
 
+-- `ptr`, `void` and the types of integers
 pub pointer_ends : ends_run (word (codes "ptr")) ≡ true
 pointer_ends = word_ends (word (codes "ptr")) refl
     (not_passed (codes "ptr") (λ e. (passed_text_there (codes "ptr") e).no_pointer refl))
@@ -87,6 +93,7 @@ int_ends width t is = word_ends t is.0
 pub sign_ends : (b : ℕ) → (b == 40) ≡ false → (b == 61) ≡ false → ends_run (sign b) ≡ true
 sign_ends b bracket equals = rw (bracket, equals) refl
 
+-- `,`, `[`, `]`, `)`, `{` and `}`
 pub comma_ends : ends_run (sign 44) ≡ true
 comma_ends = refl
 
@@ -107,6 +114,7 @@ closing_curly_ends = refl
 
 -- ---- names and records
 
+-- names of every kind, metadata and `...`
 pub local_ends : (t : Lexeme) → t.kind ≡ Local → ends_run t ≡ true
 local_ends t is = rw is refl
 
@@ -133,9 +141,27 @@ record_ends t is name text spelled = rw (is, text, no_group name spelled) refl
 
 -- ---- types
 
+-- What begins with a type of any kind.
 pub type_ends : (kind : IrType) (ts : List Lexeme) → SpellsType kind ts → begins ends_run ts ≡ true
 type_ends Void ts l = rw l void_ends
 type_ends Ptr ts l = rw l pointer_ends
 type_ends (Int width) ts l = rw l.1 (int_ends width l.0 l.2)
 type_ends (Array [] width) ts l = absurd l
 type_ends (Array (d ∷ dims) width) ts l = rw (l.2, l.3) refl
+
+-- ---- what follows a run
+
+-- What begins with this token.
+pub token_first : (t : Lexeme) (B : Language) (ts : List Lexeme) → ends_run t ≡ true → (token t · B) ts
+    → begins ends_run ts ≡ true
+token_first t B ts e l = rw (l.2, l.3) e
+
+-- A language of which each sentence begins with a token that ends every run may follow a run.
+pub run_followed : {Y : Type 0} (B : Y → Language) (StopB : Y → Lexeme → Type 0)
+    → ((y : Y) (ts : List Lexeme) → B y ts → begins ends_run ts ≡ true) → Ends StopsRun B StopB
+run_followed B StopB first run y taken rest l stops = ended_by run taken rest (first y taken l)
+
+-- the same behind a run with its text
+pub words_followed : {Y : Type 0} (B : Y → Language) (StopB : Y → Lexeme → Type 0)
+    → ((y : Y) (ts : List Lexeme) → B y ts → begins ends_run ts ≡ true) → Ends StopsWords B StopB
+words_followed B StopB first said y taken rest l stops = ended_by said.0 taken rest (first y taken l)
