@@ -10,10 +10,12 @@ use Rattle.ir_parts.proofs.Places.{length_left, left_behind}
 
 -- ---- the first of the tokens
 
+-- none past the end
 pub nothing_between : (t : Tokenized) (at to : ℕ) → to ≤ at → between t at to ≡ []
 nothing_between t at to past =
     let none : to - at ≡ 0 = omega arith in ap (λ (n : ℕ). take n (left_from t at)) none
 
+-- one before the others
 pub one_between : (t : Tokenized) (at to : ℕ) (l : Lexeme) → at < to → left_from t at ≡ l ∷ left_from t (at + 1)
     → between t at to ≡ l ∷ between t (at + 1) to
 one_between t at to l before first =
@@ -36,6 +38,7 @@ some_between t at to before within =
 
 -- ---- spaces
 
+-- Whether a space stands behind a token is told by the tokens from it, behind it, and behind that.
 pub close_there : (t : Tokenized) (before : Bool) (at to : ℕ) → at + 1 < to → to ≤ length t.tokens
     → not (close_by before (between t at to) (between t (at + 1) to) (between t (at + 1 + 1) to))
     ≡ stands_apart before (between t at to)
@@ -44,6 +47,7 @@ close_there t before at to forth within =
     let second = some_between t (at + 1) to forth within in
     rw (first.1, second.1) refl
 
+-- None stands behind the last.
 pub last_there : (t : Tokenized) (before : Bool) (at to : ℕ) → at < to → to ≤ at + 1 → to ≤ length t.tokens
     → stands_apart before (between t at to) ≡ false
 last_there t before at to forth last within =
@@ -81,6 +85,7 @@ one_more_text t before at to text forth within =
     (spaced (is_string_next (between t at to)) (between t (at + 1) to))
     ∙ ap (λ (others : List ℕ). text ++ others) (sym all)
 
+-- at the end all is written
 pub no_more_text : (t : Tokenized) (before : Bool) (at to : ℕ) (text : List ℕ) → to ≤ at
     → text ++ spaced before (between t at to) ≡ text
 unfolding spaced

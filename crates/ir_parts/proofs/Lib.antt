@@ -27,3 +27,4 @@ pub mod TakingReader
 pub mod Between
 pub mod WordsReader
 pub mod ListLoops
+pub mod RunEnds

@@ -146,11 +146,13 @@ word_is_no_bang : (t : Lexeme) → IsMetadataWord t → is_bang t ≡ false
 word_is_no_bang t is = rw (is.0, is.2) (no_bang is.1 is.3)
 
 -- what begins with a token that passes, or fails, a test
-pub starts_with_one : (test : Lexeme → Bool) (Is : Lexeme → Type 0) (B : Language) → ((t : Lexeme) → Is t → test t ≡ true)
+pub starts_with_one : (test : Lexeme → Bool) (Is : Lexeme → Type 0) (B : Language)
+    → ((t : Lexeme) → Is t → test t ≡ true)
     → (ts : List Lexeme) → (one Is · B) ts → begins test ts ≡ true
 starts_with_one test Is B back ts l = rw (l.2, l.3.1) (back l.3.0 l.3.2)
 
-pub starts_otherwise : (test : Lexeme → Bool) (Is : Lexeme → Type 0) (B : Language) → ((t : Lexeme) → Is t → test t ≡ false)
+pub starts_otherwise : (test : Lexeme → Bool) (Is : Lexeme → Type 0) (B : Language)
+    → ((t : Lexeme) → Is t → test t ≡ false)
     → (taken rest : List Lexeme) → (one Is · B) taken → begins test (taken ++ rest) ≡ false
 starts_otherwise test Is B other taken rest l = rw (l.2, l.3.1) (other l.3.0 l.3.2)
 
@@ -170,7 +172,8 @@ neither true d e p q = absurd cc
 neither false true e p q = absurd cc
 neither false false e p q = refl
 
-word_no_number : (name : List ℕ) → IsTrue (is_word name) → is_signed_number name ≡ false
+-- A word is no number.
+pub word_no_number : (name : List ℕ) → IsTrue (is_word name) → is_signed_number name ≡ false
 unfolding is_word is_signed_number
 word_no_number [] e = refl
 word_no_number (b ∷ bs) e =

@@ -14,11 +14,13 @@ pub stops_if_not : (test : Lexeme → Bool) (ts : List Lexeme) → begins test t
 stops_if_not test [] e = tt
 stops_if_not test (t ∷ ts) e = e
 
+-- the same the other way round
 pub not_if_stops : (test : Lexeme → Bool) (ts : List Lexeme) → StopsAt (λ t. test t ≡ false) ts
     → begins test ts ≡ false
 not_if_stops test [] stops = refl
 not_if_stops test (t ∷ ts) stops = stops
 
+-- two things that hold of what stands next
 pub stops_both : (P Q : Lexeme → Type 0) (ts : List Lexeme) → StopsAt P ts → StopsAt Q ts
     → StopsAt (λ t. P t × Q t) ts
 stops_both P Q [] first second = tt

@@ -30,6 +30,7 @@ use Rattle.ir_parts.proofs.PieceTokens.{IsPassed, passed_there, passed_back, str
 abbrev pub EndsPiece : Ending → Lexeme → Type 0
 EndsPiece ending t = belongs_to ending t ≡ false
 
+-- two tests that fail, and either of them
 pub or_neither : (a b : Bool) → (a || b) ≡ false → (a ≡ false) × (b ≡ false)
 or_neither true b e = absurd cc
 or_neither false b e = (refl, e)
@@ -40,9 +41,11 @@ neither_or false b first second = second
 
 -- ---- what stands behind a word
 
+-- any numeral
 abbrev pub numeral : Language
 numeral = one (λ t. t.kind ≡ Numeral)
 
+-- A numeral where one may stand, or nothing; and how a word with it ends.
 abbrev pub NumeralOrNothing : Bool → Ending → Language
 NumeralOrNothing true ending = (λ ts. (ending ≡ Placed) × numeral ts) or (λ ts. (ending ≡ Placing) × (ts ≡ []))
 NumeralOrNothing false ending = λ ts. (ending ≡ Word) × (ts ≡ [])
@@ -56,9 +59,11 @@ abbrev takes_numeral : Ending → Lexeme → Bool
 takes_numeral Placing t = is_numeral t
 takes_numeral _ t = false
 
+-- No numeral goes on.
 abbrev NoNumeral : Ending → Lexeme → Type 0
 NoNumeral ending t = takes_numeral ending t ≡ false
 
+-- the numeral of `align` or `cc`
 numeral_reads : IsReader numeral_at (λ ending ts. (ending ≡ Placed) × numeral ts) NoNumeral
 unfolding numeral_at
 numeral_reads =
@@ -66,10 +71,12 @@ numeral_reads =
     (stands_for Placed (single is_numeral (λ t. t.kind ≡ Numeral) (λ t e. numeral_kind t.kind e)
     (λ t e. ap is_numeral_kind e) (record { kind = Numeral; text = codes "1" }) refl))
 
+-- A numeral isn't refused at its own token.
 numeral_begun : (t : Lexeme) (ts : List Lexeme) → is_numeral t ≡ true → numeral_at (t ∷ ts) ≡ Err (suc (length ts)) → ⊥
 unfolding numeral_at
 numeral_begun t ts passed e = not_at_first is_numeral (pure_reads Placed) t ts passed e
 
+-- a numeral where one may stand, or nothing
 numeral_or_nothing_reads : (placing : Bool)
     → IsReader (numeral_or_nothing_at placing) (NumeralOrNothing placing) NoNumeral
 unfolding numeral_or_nothing_at numeral_if_any_at
@@ -79,12 +86,14 @@ numeral_or_nothing_reads true =
 numeral_or_nothing_reads false =
     of_sentence_stop NoNumeral (λ ending ts t l stop. rw l.0 refl) (λ ending ts t l stop. tt) (pure_reads Word)
 
+-- brackets and what stands in them
 bracketed_reads : IsReader bracketed_at (λ ending ts. (ending ≡ Closed) × in_parentheses ts) EndsPiece
 unfolding bracketed_at
 bracketed_reads =
     of_sentence_stop EndsPiece (λ ending ts t l stop. rw l.0 refl) (λ ending ts t l stop. tt)
     (stands_for Closed parentheses_read)
 
+-- Brackets aren't refused at their first token.
 bracketed_begun : (t : Lexeme) (ts : List Lexeme) → is_punctuation 40 t ≡ true
     → bracketed_at (t ∷ ts) ≡ Err (suc (length ts)) → ⊥
 unfolding bracketed_at parentheses_at
@@ -94,7 +103,7 @@ bracketed_begun t ts passed e =
       | inr both ↦ (let e = both.second in cc)
     ]
 
--- what follows a word is no bracket
+-- What stands behind a word that has no brackets is none.
 no_bracket : (placing : Bool) (ending : Ending) (taken rest : List Lexeme) → NumeralOrNothing placing ending taken
     → StopsAt (EndsPiece ending) rest → begins (is_punctuation 40) (taken ++ rest) ≡ false
 no_bracket true ending taken rest (inl l) stops = rw (l.1.1, l.1.2) refl
@@ -106,6 +115,7 @@ no_bracket false ending taken rest l stops =
     rw l.1 (not_if_stops (is_punctuation 40) rest
     (stops_also rest (λ t stop. subst (λ (ending : Ending). EndsPiece ending t) l.0 stop) stops))
 
+-- What is no bracket, and no numeral where one could stand, belongs to no word.
 stops_behind_word : (placing : Bool) (ending : Ending) (taken rest : List Lexeme)
     → NumeralOrNothing placing ending taken → begins (is_punctuation 40) (taken ++ rest) ≡ false
     → StopsAt (NoNumeral ending) rest → StopsAt (EndsPiece ending) rest
@@ -116,13 +126,15 @@ stops_behind_word true ending taken rest (inr l) failed stops =
     stops_also rest (λ t both. subst (λ (ending : Ending). EndsPiece ending t) (sym l.0)
     (neither_or (is_punctuation 40 t) (is_numeral t) both.0
     (subst (λ (ending : Ending). NoNumeral ending t) l.0 both.1)))
-    (stops_both (λ t. is_punctuation 40 t ≡ false) (NoNumeral ending) rest (stops_if_not (is_punctuation 40) rest here) stops)
+    (stops_both (λ t. is_punctuation 40 t ≡ false) (NoNumeral ending) rest
+    (stops_if_not (is_punctuation 40) rest here) stops)
 stops_behind_word false ending taken rest l failed stops =
     let here : begins (is_punctuation 40) rest ≡ false =
     ap (λ (ts : List Lexeme). begins (is_punctuation 40) (ts ++ rest)) (sym l.1) ∙ failed in
     stops_also rest (λ t other. subst (λ (ending : Ending). EndsPiece ending t) (sym l.0) other)
     (stops_if_not (is_punctuation 40) rest here)
 
+-- What doesn't belong to a piece is no numeral that could.
 no_numeral : (ending : Ending) (t : Lexeme) → EndsPiece ending t → NoNumeral ending t
 no_numeral Placing t stop = (or_neither (is_punctuation 40 t) (is_numeral t) stop).1
 no_numeral Empty t stop = refl
@@ -131,6 +143,7 @@ no_numeral Placed t stop = refl
 no_numeral Quoted t stop = refl
 no_numeral Closed t stop = refl
 
+-- what belongs to a word
 behind_word_reads : (placing : Bool) → IsReader (behind_word_at placing) (BelongsToWord placing) EndsPiece
 unfolding behind_word_at
 behind_word_reads placing =
@@ -168,6 +181,7 @@ a_word : IsPassed (word (codes "a"))
 unfolding is_passed_text int_width_of
 a_word = passed_there (word (codes "a")) refl
 
+-- the word alone
 word_reads : IsReader (one_at passed_word) (λ says. one (IsSaid says)) Anything
 word_reads =
     one_reads passed_word IsSaid said_there said_back (word_says (codes "a")) (word (codes "a")) (a_word, refl)
@@ -176,6 +190,7 @@ word_reads =
 abbrev pub run_of_word : Bool × Bool → Ending → Run
 run_of_word says ending = record { external = says.0; ending = ending }
 
+-- what belongs to the word that says so
 abbrev pub WithEnding : Bool × Bool → Run → Language
 WithEnding says run ts = (ending : Ending) × (run ≡ run_of_word says ending) × BelongsToWord says.1 ending ts
 
@@ -184,6 +199,7 @@ with_ending_reads : (says : Bool × Bool)
 with_ending_reads says =
     mapped (run_of_word says) EndsRun (λ ending t stop. stop) (λ ending t stop. stop) (behind_word_reads says.1)
 
+-- a word and what belongs to it
 abbrev pub WordPiece : Run → Language
 WordPiece run ts = (says : Bool × Bool) × (one (IsSaid says) · WithEnding says run) ts
 
@@ -193,6 +209,7 @@ word_piece_reads =
     then_reads (λ says. behind_word_at says.1 >>= λ ending. pure (run_of_word says ending)) WithEnding EndsRun
     word_reads with_ending_reads
 
+-- Such a piece isn't refused at its word.
 pub word_piece_begun : (t : Lexeme) (ts : List Lexeme) → is_passed t ≡ true
     → word_piece_at (t ∷ ts) ≡ Err (suc (length ts)) → ⊥
 unfolding word_piece_at
@@ -209,6 +226,7 @@ nothing_inside : [] ≡ unescaped []
 unfolding unescaped
 nothing_inside = refl
 
+-- one string
 pub string_reads : IsReader (token_at is_string_token) (λ (x : Unit {0}). one IsStringToken) Anything
 unfolding an_empty_string
 string_reads =
@@ -223,12 +241,14 @@ value_reads : IsReader value_at (λ (x : Unit {0}). value) Anything
 unfolding value_at
 value_reads = behind_token (sign_reads 61) string_reads
 
+-- the second of two strings
 paired_reads : IsReader paired_at (λ ending ts. (ending ≡ Closed) × value ts) EndsPiece
 unfolding paired_at
 paired_reads =
     of_sentence_stop EndsPiece (λ ending ts t l stop. rw l.0 refl) (λ ending ts t l stop. tt)
     (stands_for Closed value_reads)
 
+-- A `=` isn't refused.
 paired_begun : (t : Lexeme) (ts : List Lexeme) → is_punctuation 61 t ≡ true
     → paired_at (t ∷ ts) ≡ Err (suc (length ts)) → ⊥
 unfolding paired_at value_at
@@ -242,11 +262,13 @@ paired_begun t ts passed e =
 abbrev pub BelongsToString : Ending → Language
 BelongsToString ending = (λ ts. (ending ≡ Closed) × value ts) or (λ ts. (ending ≡ Quoted) × (ts ≡ []))
 
+-- what belongs to a string
 behind_string_reads : IsReader (choose (is_punctuation 61) paired_at (pure Quoted)) BelongsToString EndsPiece
 behind_string_reads =
     or_nothing (is_punctuation 61) Quoted paired_reads (λ ending ts l. rw (l.1.2, l.1.3) (is_sign_itself 61))
     paired_begun (λ t e. e) (λ t e. e)
 
+-- a string and what belongs to it
 abbrev pub StringPiece : Ending → Language
 StringPiece ending = one IsStringToken · BelongsToString ending
 
@@ -254,11 +276,13 @@ string_piece_reads : IsReader string_piece_at StringPiece EndsPiece
 unfolding string_piece_at
 string_piece_reads = behind_token string_reads behind_string_reads
 
+-- Such a piece isn't refused at its first string.
 string_begun : (t : Lexeme) (ts : List Lexeme) → is_string_token t ≡ true
     → string_piece_at (t ∷ ts) ≡ Err (suc (length ts)) → ⊥
 unfolding string_piece_at
 string_begun t ts passed e = not_at_first is_string_token behind_string_reads t ts passed e
 
+-- a group of attributes
 abbrev pub GroupPiece : Ending → Language
 GroupPiece ending ts = (ending ≡ Closed) × one IsAttributeGroup ts
 
@@ -273,6 +297,7 @@ group_reads =
     (stands_for Closed (single is_group IsAttributeGroup group_there group_back
     (record { kind = Group; text = codes "#0" }) a_group))
 
+-- a piece that begins with no word
 other_piece_reads : IsReader other_piece_at (λ ending. StringPiece ending or GroupPiece ending) EndsPiece
 unfolding other_piece_at
 other_piece_reads =
@@ -285,6 +310,7 @@ other_piece_reads =
 abbrev pub plain_run : Ending → Run
 plain_run ending = record { external = false; ending = ending }
 
+-- the same as a run of its own
 abbrev pub PlainPiece : Run → Language
 PlainPiece run ts = (ending : Ending) × (run ≡ plain_run ending) × (StringPiece ending or GroupPiece ending) ts
 

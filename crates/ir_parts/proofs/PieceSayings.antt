@@ -52,6 +52,7 @@ record SaysSo (t : Lexeme) (behind : List Lexeme) (ending : Ending) : Type 0 whe
   so : ending ≡ ending_of (t ∷ behind)
   piece : ByWord (t ∷ behind)
 
+-- A word alone says so.
 word_alone : (t : Lexeme) (behind : List Lexeme) (may_place : Bool) (ending : Ending) → IsPassed t
     → is_placing t.text ≡ may_place → ending ≡ (if may_place then Placing else Word) → behind ≡ []
     → SaysSo t behind ending
@@ -60,6 +61,7 @@ word_alone t behind may_place ending is e so none = record {
   piece = inl (t, ap (λ (ts : List Lexeme). t ∷ ts) none, is);
 }
 
+-- A word with what belongs to it says so.
 word_says_so : (t : Lexeme) (behind : List Lexeme) (may_place : Bool) (ending : Ending) → IsPassed t
     → is_placing t.text ≡ may_place → BelongsToWord may_place ending behind → SaysSo t behind ending
 word_says_so t behind may_place ending is e (inl l) = record {
@@ -81,11 +83,13 @@ record WordParts (ts : List Lexeme) : Type 0 where
   passed : IsPassed first
   belongs : BelongsToWord (is_placing first.text) (ending_of (first ∷ behind)) behind
 
+-- nothing belongs to a word alone
 alone : (t : Lexeme) (may_place : Bool) → t.kind ≡ kind.Word → is_placing t.text ≡ may_place
     → NumeralOrNothing may_place (ending_of (t ∷ [])) []
 alone t true is e = inr (rw (is, e) refl, refl)
 alone t false is e = (rw (is, e) refl, refl)
 
+-- `align` or `cc` with its numeral
 placed : (name : List ℕ) (ts us vs : List Lexeme) → ts ≡ us ++ vs → us ≡ word name ∷ [] → numeral vs
     → IsPassed (word name) → is_placing name ≡ true → WordParts ts
 placed name ts us vs parts first number is e = record {
@@ -97,6 +101,7 @@ placed name ts us vs parts first number is e = record {
       (inl (rw (number.1, number.2) refl, number)));
 }
 
+-- Both words are passed on.
 align_passed : IsPassed (word (codes "align"))
 unfolding is_passed_text int_width_of
 align_passed = passed_there (word (codes "align")) refl
@@ -105,6 +110,7 @@ cc_passed : IsPassed (word (codes "cc"))
 unfolding is_passed_text int_width_of
 cc_passed = passed_there (word (codes "cc")) refl
 
+-- each piece that begins with a word, in its parts
 word_parts : (ts : List Lexeme) → ByWord ts → WordParts ts
 word_parts ts (inl l) = record {
   first = l.0;
@@ -129,6 +135,7 @@ word_parts ts (inr (inr (us, vs, parts, inr first, number))) =
 abbrev Says : Language → Run → Language
 Says Piece run ts = Piece ts × (run ≡ run_of_piece ts)
 
+-- What is read as such a piece is one, and the other way round.
 word_there : (run : Run) (ts : List Lexeme) → WordPiece run ts → Says ByWord run ts
 word_there run ts (says, (us, vs, parts, (t, first, (is, said)), (ending, made, belongs))) =
     let all : ts ≡ t ∷ vs = parts ∙ ap (λ (us : List Lexeme). us ++ vs) first in
@@ -159,6 +166,7 @@ word_back run ts l =
 abbrev ByToken : Language
 ByToken ts = one IsStringToken ts ⊎ (one IsStringToken · value) ts ⊎ one IsAttributeGroup ts
 
+-- what a string says with what belongs to it, and what a group says
 string_says : (t : Lexeme) (behind : List Lexeme) (ending : Ending) → IsStringToken t
     → ending ≡ ending_of_string behind → plain_run ending ≡ run_of_piece (t ∷ behind)
 string_says t behind ending is e = rw (e, is.0, is.2.1) refl
@@ -167,6 +175,7 @@ group_says : (t : Lexeme) (ending : Ending) → IsAttributeGroup t → ending �
     → plain_run ending ≡ run_of_piece (t ∷ [])
 group_says t ending is e = rw (e, is.0, is.2) refl
 
+-- What is read as such a piece is one, and the other way round.
 plain_there : (run : Run) (ts : List Lexeme) → PlainPiece run ts → Says ByToken run ts
 plain_there run ts (ending, made, inl (us, vs, parts, (t, first, is), inl (closed, l))) =
     let all : ts ≡ t ∷ vs = parts ∙ ap (λ (us : List Lexeme). us ++ vs) first in
@@ -204,6 +213,7 @@ plain_back run ts (inr (inr (t, all, is)), says) = (
 
 -- ---- pieces
 
+-- The first token tells the two kinds apart.
 word_starts : (run : Run) (ts : List Lexeme) → Says ByWord run ts → begins is_passed ts ≡ true
 word_starts run ts l = let p = word_parts ts l.0 in rw p.parts (passed_back p.first p.passed)
 
@@ -217,6 +227,7 @@ token_is_no_word run taken rest (inr (inr l), says) = rw (l.1, l.2.0) refl
 abbrev pub SpellsPiece : Run → Language
 SpellsPiece run ts = IsPiece ts × (run ≡ run_of_piece ts)
 
+-- a piece is of one of the two kinds
 piece_there : (run : Run) (ts : List Lexeme) → Says ByWord run ts ⊎ Says ByToken run ts → SpellsPiece run ts
 piece_there run ts (inl (inl l, says)) = (inl l, says)
 piece_there run ts (inl (inr (inl l), says)) = (inr (inl l), says)
@@ -233,6 +244,7 @@ piece_back run ts (inr (inr (inr (inl l))), says) = inr (inl l, says)
 piece_back run ts (inr (inr (inr (inr (inl l)))), says) = inr (inr (inl l), says)
 piece_back run ts (inr (inr (inr (inr (inr l)))), says) = inr (inr (inr l), says)
 
+-- the pieces, and what each is as a run of its own
 pub piece_reads : IsReader piece_at SpellsPiece EndsRun
 unfolding piece_at
 piece_reads = of_language SpellsPiece piece_there piece_back

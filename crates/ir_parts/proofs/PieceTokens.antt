@@ -41,6 +41,7 @@ no_width : (o : Option ℕ) → is_none o ≡ true → (width : ℕ) → o ≡ S
 no_width None e width is = cc
 no_width (Some n) e width is = cc
 
+-- what is no type of integers has no width
 is_no_integer : (text : List ℕ) → ((width : ℕ) → IsIntText width text → ⊥) → is_none (int_width_of text) ≡ true
 is_no_integer text none = decide (int_width_of text) refl
   where
@@ -48,6 +49,7 @@ is_no_integer text none = decide (int_width_of text) refl
     decide None e = refl
     decide (Some width) e = absurd (none width (int_text width text e))
 
+-- The test of passed-on words is exactly their definition.
 pub passed_text_there : (text : List ℕ) → is_passed_text text ≡ true → IsPassedWord text
 unfolding is_passed_text
 passed_text_there text e =
@@ -76,6 +78,7 @@ passed_text_back text is = rw (
   is_no_integer text is.no_integer,
 ) refl
 
+-- a passed-on word as a token
 abbrev pub IsPassed : Lexeme → Type 0
 IsPassed t = (t.kind ≡ Word) × IsPassedWord t.text
 
@@ -93,6 +96,7 @@ quoted_kind : (kind : TokenKind) → is_quoted kind ≡ true → kind ≡ Quoted
 quoted_kind Quoted e = refl
 quoted_kind _ e = absurd cc
 
+-- The test of strings is exactly their definition.
 pub string_there : (t : Lexeme) → is_string_token t ≡ true → IsStringToken t
 string_there t e =
     let parts = and_parts (is_quoted t.kind) (is_string_text t.text) e in
@@ -119,6 +123,7 @@ text_group : (number : List ℕ) → IsTrue (is_signed_number number) → is_gro
 unfolding is_group_text
 text_group number e = e
 
+-- The test of groups is exactly their definition.
 pub group_there : (t : Lexeme) → is_group t ≡ true → IsAttributeGroup t
 group_there t e =
     let parts = and_parts (is_group_kind t.kind) (is_group_text t.text) e in

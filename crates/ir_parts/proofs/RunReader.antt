@@ -21,6 +21,7 @@ use Rattle.ir_parts.proofs.PieceSayings.{SpellsPiece, piece_reads}
 
 -- ---- what begins a piece
 
+-- one of three tests passes
 one_of : (a b c : Bool) → (a || (b || c)) ≡ true → (a ≡ true) ⊎ (b ≡ true) ⊎ (c ≡ true)
 one_of true b c e = inl refl
 one_of false true c e = inr (inl refl)
@@ -38,6 +39,7 @@ third_of_three true b c e = refl
 third_of_three false true c e = refl
 third_of_three false false c e = e
 
+-- a word, a string and a group begin a piece
 passed_begins : (t : Lexeme) → IsPassed t → begins_piece t ≡ true
 passed_begins t is = first_of_three (is_passed t) (is_string_token t) (is_group t) (passed_back t is)
 
@@ -47,6 +49,7 @@ string_begins t is = second_of_three (is_passed t) (is_string_token t) (is_group
 group_begins : (t : Lexeme) → IsAttributeGroup t → begins_piece t ≡ true
 group_begins t is = third_of_three (is_passed t) (is_string_token t) (is_group t) (group_back t is)
 
+-- as do these words
 align_begins : begins_piece (word (codes "align")) ≡ true
 unfolding is_passed_text int_width_of
 align_begins = refl
@@ -55,6 +58,7 @@ cc_begins : begins_piece (word (codes "cc")) ≡ true
 unfolding is_passed_text int_width_of
 cc_begins = refl
 
+-- Each piece begins with a token that begins one.
 piece_starts : (ts : List Lexeme) → IsPiece ts → begins begins_piece ts ≡ true
 piece_starts ts (inl l) = rw l.1 (passed_begins l.0 l.2)
 piece_starts ts (inr (inl l)) = rw (l.2, l.3.1) (passed_begins l.3.0 l.3.2)
@@ -72,6 +76,7 @@ alone t e = elim (one_of (is_passed t) (is_string_token t) (is_group t) e) [
   | inr (inr group) ↦ inr (inr (inr (inr (inr (t, refl, group_there t group)))))
 ]
 
+-- No piece is refused at its first token.
 piece_begun : (t : Lexeme) (ts : List Lexeme) → begins_piece t ≡ true
     → piece_at (t ∷ ts) ≡ Err (suc (length ts)) → ⊥
 piece_begun t ts passed e = refused_there piece_reads [] ts t e
@@ -88,6 +93,7 @@ belongs_to_none Placed t bracket number equals = refl
 belongs_to_none Quoted t bracket number equals = equals
 belongs_to_none Closed t bracket number equals = refl
 
+-- What begins a piece belongs to none before it.
 piece_ends : (run : Run) (t : Lexeme) → begins_piece t ≡ true → EndsRun run t
 piece_ends run t e = elim (one_of (is_passed t) (is_string_token t) (is_group t) e) [
   | inl passed ↦
@@ -103,6 +109,7 @@ piece_ends run t e = elim (one_of (is_passed t) (is_string_token t) (is_group t)
 
 -- ---- what the pieces say
 
+-- Of the pieces and of the runs that they are alone, the same is said.
 same_external : (pieces : List (List Lexeme))
     → list_any (λ (run : Run). run.external) (map run_of_piece pieces) ≡ is_external pieces
 same_external [] = refl
@@ -122,6 +129,7 @@ record PiecesOf (runs : List Run) (ts : List Lexeme) : Type 0 where
   there : ArePieces pieces ts
   said : runs ≡ map run_of_piece pieces
 
+-- the pieces of what was read, and what is read of pieces
 pieces_of : (runs : List Run) (ts : List Lexeme) → InSequence SpellsPiece runs ts → PiecesOf runs ts
 pieces_of [] ts l = record { pieces = []; there = l; said = refl }
 pieces_of (run ∷ runs) ts (us, vs, parts, (piece, says), others) =
@@ -138,9 +146,11 @@ runs_of [] ts l = l
 runs_of (piece ∷ pieces) ts (us, vs, parts, (same, is), others) =
     (us, vs, parts, (rw same is, ap run_of_piece (sym same)), runs_of pieces vs others)
 
+-- a run that is made of the pieces that were read
 abbrev FromRuns : Run → Language
 FromRuns run ts = (runs : List Run) × (run ≡ of_pieces runs) × InSequence SpellsPiece runs ts
 
+-- What is made of them is a run by its language, and the other way round.
 run_there : (run : Run) (ts : List Lexeme) → FromRuns run ts → SpellsRun run ts
 run_there run ts (runs, made, l) =
     let p = pieces_of runs ts l in (p.pieces, p.there, made ∙ (ap of_pieces p.said ∙ same_run p.pieces))
@@ -155,6 +165,7 @@ run_back run ts (pieces, there, made) =
 abbrev pub StopsRun : Run → Lexeme → Type 0
 StopsRun run t = goes_on run.ending t ≡ false
 
+-- What stops the last of the pieces stops the run, and the other way round.
 stop_there : (runs : List Run) (t : Lexeme) → BehindLast begins_piece EndsRun runs t → StopsRun (of_pieces runs) t
 stop_there [] t stop = neither_or (begins_piece t) false stop refl
 stop_there (run ∷ []) t stop = neither_or (begins_piece t) (belongs_to run.ending t) stop.0 stop.1
@@ -165,6 +176,7 @@ stop_back [] t stop = (or_neither (begins_piece t) false stop).0
 stop_back (run ∷ []) t stop = or_neither (begins_piece t) (belongs_to run.ending t) stop
 stop_back (run ∷ next ∷ runs) t stop = stop_back (next ∷ runs) t stop
 
+-- The reader of runs, which stops exactly where a token doesn't go on.
 pub run_reads : IsReader run_at SpellsRun StopsRun
 unfolding run_at
 run_reads = of_language SpellsRun run_there run_back

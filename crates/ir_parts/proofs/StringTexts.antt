@@ -11,6 +11,7 @@ use Rattle.ir_text.specs.Bytes.{is_no_quote}
 use Rattle.ir_text.specs.Written.{unescaped, IsQuoted}
 use Rattle.ir_text.specs.Said.{inner_text, is_string_text}
 
+-- A text with a quote at both ends is these around what stands between.
 framed : (text : List ℕ) → 2 ≤ length text → 34 ∷ [] ≡ take 1 text → 34 ∷ [] ≡ drop (length text - 1) text
     → text ≡ 34 ∷ (inner_text text ++ 34 ∷ [])
 framed [] long first last = absurd (omega arith)
@@ -46,12 +47,14 @@ all_four a b c d e f g h = rw (e, f, g, h) refl
 framed_text : List ℕ → List ℕ
 framed_text inner = 34 ∷ (inner ++ 34 ∷ [])
 
+-- What stands between the quotes is that.
 inner_of : (inner : List ℕ) → inner_text (framed_text inner) ≡ inner
 unfolding framed_text
 inner_of inner =
     let count : length (framed_text inner) - 2 ≡ length inner = omega (arith, length-append inner (34 ∷ [])) in
     ap (λ (n : ℕ). take n (inner ++ 34 ∷ [])) count ∙ take-append_seam inner (34 ∷ [])
 
+-- Such a text passes the test.
 string_of : (inner : List ℕ) → list_all is_no_quote inner ≡ true → is_string_text (framed_text inner) ≡ true
 unfolding is_string_text framed_text
 string_of inner plain =
@@ -67,6 +70,7 @@ string_of inner plain =
     ((bytes_eq-Decides (34 ∷ []) (drop (length text - 1) text)).1 (sym end))
     (ap (list_all is_no_quote) (inner_of inner) ∙ plain)
 
+-- A string passes the test.
 pub quoted_is_string : (text bytes : List ℕ) → IsQuoted text bytes → is_string_text text ≡ true
 unfolding framed_text
 quoted_is_string text bytes l = ap is_string_text l.1 ∙ string_of l.0 l.2

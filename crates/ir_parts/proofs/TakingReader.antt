@@ -22,6 +22,7 @@ WithTokens L p us = L p.0 us × (p.1 ≡ us)
 with_taken : {X : Type 0} → List Lexeme → X → Read (X × List Lexeme)
 with_taken ts x rest = Ok ((x, take (length ts - length rest) ts), rest)
 
+-- The tokens that were taken are the sentence.
 pub taking_reads : {X : Type 0} {a : Read X} {L : X → List Lexeme → Type 0} {Stop : X → Lexeme → Type 0}
     → IsReader a L Stop → IsReader (taking a) (λ p us. L p.0 us × (p.1 ≡ us)) (λ p. Stop p.0)
 unfolding taking with_taken

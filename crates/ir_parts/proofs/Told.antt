@@ -84,6 +84,7 @@ module _ {read : Read (Unit {0})} {L : List Lexeme → Type 0} {Stop : Unit {0} 
 
 -- ---- a view of what a richer reading gives
 
+-- what the richer reading gave
 seen_read : {R X : Type 0} (view : R → X) (r : Result (R × List Lexeme) ℕ) (x : X) (rest : List Lexeme)
     → go_on r (λ rich. pure (view rich)) ≡ Ok (x, rest) → (rich : R) × (view rich ≡ x) × (r ≡ Ok (rich, rest))
 seen_read {R} {X} view r x rest e =

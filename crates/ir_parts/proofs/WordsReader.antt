@@ -21,9 +21,11 @@ use Rattle.ir_parts.proofs.Places.{length_left}
 abbrev with_text : Run × List Lexeme → Run × List ℕ
 with_text said = (said.0, passed_text said.1)
 
+-- what is made of a run and its tokens
 abbrev FromTokens : Run × List ℕ → Language
 FromTokens said ts = (taken : Run × List Lexeme) × (said ≡ with_text taken) × WithTokens SpellsRun taken ts
 
+-- The text of the run's tokens is that of the sentence.
 text_there : (said : Run × List ℕ) (ts : List Lexeme) → FromTokens said ts → SpellsRunText said ts
 text_there said ts (taken, made, (spelled, same)) = (
   spelled.0,
@@ -39,6 +41,7 @@ text_back said ts l = ((said.0, ts), ap (λ (text : List ℕ). (said.0, text)) l
 abbrev pub StopsWords : Run × List ℕ → Lexeme → Type 0
 StopsWords said t = StopsRun said.0 t
 
+-- The reader of runs with their texts.
 pub words_read : IsReader words_at SpellsRunText StopsWords
 unfolding words_at
 words_read = of_language SpellsRunText text_there text_back
@@ -58,6 +61,7 @@ words_there t from at run text forth within read says =
     rw read (ap (λ (n : ℕ). Ok ((run, passed_text (take n (left_from t from))), left_from t at)) so_many
     ∙ ap (λ (text : List ℕ). Ok ((run, text), left_from t at)) (sym says))
 
+-- a fault of the run
 pub words_refused : (t : Tokenized) (from : ℕ) (fault : ItemFault)
     → Reads {X = Run} t (Err fault) (run_at (left_from t from))
     → Reads {X = Run × List ℕ} t (Err fault) (words_at (left_from t from))
@@ -67,6 +71,7 @@ words_refused t from (CannotGoOn at) e = (rw e.0 refl, e.1)
 
 -- ---- the text alone
 
+-- The text is all that is told of a run's words.
 pub text_of_words : (text : List ℕ) (ts : List Lexeme)
     → (said : Run × List ℕ) × (said.1 ≡ text) × SpellsRunText said ts → SpellsWords text ts
 text_of_words text ts (said, same, l) = ((l.0, l.1), sym same ∙ l.3)

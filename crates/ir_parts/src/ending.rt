@@ -17,10 +17,11 @@ pub enum Ending {
     Closed,
 }
 
-/// A run of passed-on words, or one piece of it: whether a piece begins with `external` or `extern_weak`, and how it
-/// ends.
+/// What is known of a run of passed-on words, or of one piece.
 #[derive(Clone, Copy)]
 pub struct Run {
+    /// Whether a piece begins with `external` or `extern_weak`.
     pub external: bool,
+    /// How the last piece ends.
     pub ending: Ending,
 }

@@ -12,7 +12,8 @@ use sqlite_items::Items;
 use std::alloc::{AllocError, Global};
 
 /// The text that the tokens from one place to another are passed on as: one space between two of them, and none
-/// where they stand close. Time linear in the text and the tokens.
+/// where they stand close, as in `section ".text" align 4` and `"key"="value"`. Time linear in the text and the
+/// tokens. An error comes where there is no memory for the text.
 pub fn text_between(
     alloc: Global,
     tokens: &Tokens<'_>,

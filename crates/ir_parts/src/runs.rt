@@ -14,7 +14,11 @@ use ir_lex::Tokens;
 use ir_model::Text;
 use std::alloc::Global;
 
-/// A run of passed-on words, which may have no piece, and the place behind it.
+/// A run of passed-on words, which may have no piece, and the place behind it: whether a piece begins with `external`
+/// or `extern_weak`, and how the run ends. It goes on as far as tokens begin pieces or belong to the last one.
+///
+/// A fault stands where a piece is broken off, in brackets or behind a `=`; memory is taken for the brackets that are
+/// open.
 pub fn run(alloc: Global, tokens: &Tokens<'_>, from: usize) -> Result<(Run, usize), ItemFault>
     requires { from ≤ length tokens.now.tokens }
     ensures value { Reads tokens.now result (run_at (left_from tokens.now from)) }
@@ -43,7 +47,8 @@ fn joined(so_far: Run, next: Run) -> Run
     }
 }
 
-/// A run of passed-on words with the text that it is passed on as, and the place behind it.
+/// A run of passed-on words with the text that it is passed on as, and the place behind it. A fault stands where `run`
+/// has it; memory is taken for the text too.
 pub fn words(
     alloc: Global,
     tokens: &Tokens<'_>,
