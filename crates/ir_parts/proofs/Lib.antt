@@ -14,3 +14,13 @@ pub mod ListReaders
 pub mod Decided
 pub mod PartsReader
 pub mod ListLoops
+pub mod StringTexts
+pub mod PieceTokens
+pub mod Optional
+pub mod PieceReaders
+pub mod PieceSayings
+pub mod RunReader
+pub mod TakingReader
+pub mod Between
+pub mod WordsReader
+pub mod RunEnds

@@ -3,6 +3,8 @@ pub mod Places
 pub mod TypeReading
 pub mod BracketsReading
 pub mod WordsReading
+pub mod Runs
+pub mod TextReading
 pub mod MetadataReading
 pub mod ListReading
 pub mod Sentences

@@ -3,21 +3,27 @@
 
 mod brackets;
 mod cursor;
+mod ending;
 mod fault;
 mod forms;
 mod metadata;
 mod numbers;
 mod out_of_memory;
+mod passed_text;
+mod passed_words;
+mod pieces;
 mod read_types;
+mod runs;
 mod types;
-mod words;
 
 pub use cursor::{behind_keyword, behind_sign, next, starts_keyword, starts_sign};
+pub use ending::{Ending, Run};
 pub use fault::ItemFault;
-pub use forms::{inner_text, is_number, is_string_text};
+pub use forms::{inner_text, is_number, is_signed_number, is_string_text};
 pub use metadata::{skip_metadata, skip_pairs, starts_part};
 pub use numbers::{are_digits, small_number};
+pub use passed_text::text_between;
 pub use read_types::{
     read_int_type, read_returned_type, read_scalar_type, read_stored_type, read_type,
 };
-pub use words::run;
+pub use runs::{read_words, run, words};
