@@ -17,6 +17,7 @@ pub mod MetadataReaders
 pub mod ListReaders
 pub mod Decided
 pub mod PartsReader
+pub mod ListLoops
 pub mod StringTexts
 pub mod PieceTokens
 pub mod Optional
@@ -26,5 +27,4 @@ pub mod RunReader
 pub mod TakingReader
 pub mod Between
 pub mod WordsReader
-pub mod ListLoops
 pub mod RunEnds
