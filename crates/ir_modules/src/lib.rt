@@ -1,0 +1,2 @@
+//! Modules, read from their text.
+#![tactic(auto)]
