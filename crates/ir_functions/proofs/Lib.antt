@@ -1,2 +1,3 @@
 pub mod LineStarts
 pub mod LineFacts
+pub mod ChainTellers
