@@ -1,3 +1,4 @@
 pub mod LineStarts
 pub mod LineFacts
 pub mod ChainTellers
+pub mod LineTellers
