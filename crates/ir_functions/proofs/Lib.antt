@@ -2,3 +2,6 @@ pub mod LineStarts
 pub mod LineFacts
 pub mod ChainTellers
 pub mod LineTellers
+pub mod GivenValues
+pub mod Regrouped
+pub mod LineSayings
