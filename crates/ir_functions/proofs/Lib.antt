@@ -5,3 +5,5 @@ pub mod LineTellers
 pub mod GivenValues
 pub mod Regrouped
 pub mod LineSayings
+pub mod UntilTellers
+pub mod LinesTellers

@@ -1,26 +1,21 @@
 -- What a line that was read says: its instruction is spelled, or what stands there is dropped; and each of these is
 -- a line.
-use Rattle.std.proofs.Common.{◌≡◌, ℕ, Bool, true, false, List, [], ◌∷◌, ◌++◌, Option, Some, None, ◌⊎◌, inl, inr, refl, sym, ap, subst, ◌∙◌, IsTrue}
-use Rattle.std.specs.Option.{option_map}
+use Rattle.std.proofs.Common.{◌≡◌, ℕ, Bool, true, false, List, [], ◌∷◌, ◌++◌, Option, Some, None, inl, inr, refl, sym, ap, subst, ◌∙◌, IsTrue}
 use Rattle.scev_base.specs.declared.ids.ValueId.{ValueId}
-use Rattle.ir_model.specs.declared.op.Op.{Op}
 use Rattle.ir_model.specs.declared.function.Instr.{Instr}
 use Rattle.ir_text.specs.Tokens.{Lexeme}
-use Rattle.ir_text.specs.Language.{◌·◌}
-use Rattle.ir_text.specs.Mentions.{Mention, DefinesValue, Mentioning, ◌⊙◌, silent, defines_value, unwritten}
-use Rattle.ir_text.specs.PassedOn.{attachments}
+use Rattle.ir_text.specs.Mentions.{Mention, DefinesValue, Mentioning, ◌⊙◌, silent}
 use Rattle.ir_grammar.specs.Operations.{the_sign}
-use Rattle.ir_grammar.specs.Functions.{is_terminator, MayHaveResult, GivesValue, SpellsResult, SpellsInstr, dropped_call, dropped_instr}
+use Rattle.ir_grammar.specs.Functions.{is_terminator, MayHaveResult, SpellsResult, SpellsInstr, dropped_instr}
 use Rattle.ir_parts.specs.declared.ending.Ending.{Ending}
 use Rattle.ir_body.specs.declared.operation.Operation.{Operation}
 use Rattle.ir_body.specs.Telling.{Telling}
-use Rattle.ir_body.proofs.Tellers.{then_as, first_as}
 use Rattle.ir_functions.specs.declared.lines.Line.{Line}
-use Rattle.ir_functions.specs.Lines.{instr_of, named_line, numbered_instr, numbered_line, ends_block}
+use Rattle.ir_functions.specs.Lines.{instr_of, named_line, numbered_instr, ends_block}
 use Rattle.ir_functions.proofs.GivenValues.{gives_back, gives_none, value_may, call_may, call_or_none, call_ends_none, numbered_value, numbered_none, numbered_op, numbered_spelled}
 use Rattle.ir_functions.proofs.LineFacts.{SpellsWhole, ReadsPlain, ReadsCalls}
 use Rattle.ir_functions.proofs.ChainTellers.{SpellsChain}
-use Rattle.ir_functions.proofs.LineTellers.{SpellsDefined, SpellsNamedLine, SpellsUnnamedLine, SpellsAnyLine, empty_line, record_words}
+use Rattle.ir_functions.proofs.LineTellers.{SpellsDefined, SpellsAnyLine, empty_line, record_words}
 use Rattle.ir_functions.proofs.Regrouped.{left_parts, right_parts, left_told, right_told}
 
 module _ {Chain : Bool → Option Operation × Option Ending → List Mention → List Lexeme → Type 0}

@@ -1,5 +1,5 @@
 -- The lines of blocks are read: records, instructions with a name and without, and calls that are dropped.
-use Rattle.std.proofs.Common.{◌≡◌, ℕ, suc, Bool, true, false, List, [], ◌∷◌, ◌++◌, length, Option, Some, None, Err, ◌⊎◌, inl, inr, refl, sym, ap, subst, ◌∙◌, append_assoc, IsTrue, codes}
+use Rattle.std.proofs.Common.{◌≡◌, suc, Bool, true, false, List, [], ◌∷◌, ◌++◌, length, Option, Some, None, Err, ◌⊎◌, inl, inr, refl, ap, subst, ◌∙◌, IsTrue, codes}
 use Rattle.scev_base.specs.declared.ids.ValueId.{ValueId}
 use Rattle.ir_text.specs.declared.token.TokenKind.TheVariants.{Group}
 use Rattle.ir_text.specs.Bytes.{is_letter, begins_word}
@@ -14,14 +14,14 @@ use Rattle.ir_text.specs.PassedOn.{in_parentheses, attachments}
 use Rattle.ir_grammar.specs.Operations.{the_sign}
 use Rattle.ir_grammar.specs.Functions.{IsRecord}
 use Rattle.ir_parts.specs.declared.ending.Ending.{Ending}
-use Rattle.ir_parts.specs.Reading.{begins, token_at, ◌▷◌}
+use Rattle.ir_parts.specs.Reading.{begins, ◌▷◌}
 use Rattle.ir_parts.specs.WordsReading.{parentheses_at}
 use Rattle.ir_parts.specs.MetadataReading.{attachments_at}
-use Rattle.ir_parts.proofs.Readers.{IsReader, Anything, Begins, of_language, mapped, one_reads, chosen, refused_there}
-use Rattle.ir_parts.proofs.Combined.{behind_token, not_at_first}
+use Rattle.ir_parts.proofs.Readers.{IsReader, Anything, of_language, mapped, one_reads, chosen, refused_there}
+use Rattle.ir_parts.proofs.Combined.{behind_token}
 use Rattle.ir_parts.proofs.MetadataReaders.{NoComma, single, parentheses_read, attachments_read}
 use Rattle.ir_body.specs.declared.operation.Operation.{Operation}
-use Rattle.ir_body.specs.Telling.{Telling, silently}
+use Rattle.ir_body.specs.Telling.{Telling}
 use Rattle.ir_body.proofs.SaidNames.{local_there, local_back}
 use Rattle.ir_body.proofs.Tellers.{IsTeller, silent_tells, made_tells, both, skip, sign_tells}
 use Rattle.ir_functions.specs.declared.lines.Line.{Line}

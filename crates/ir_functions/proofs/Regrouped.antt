@@ -1,5 +1,5 @@
 -- Three parts of a sentence in either grouping, and sentences with an empty part.
-use Rattle.std.proofs.Common.{◌≡◌, List, [], ◌∷◌, ◌++◌, refl, sym, ap, subst, ◌∙◌, append_assoc}
+use Rattle.std.proofs.Common.{List, ◌++◌, refl, sym, ap, ◌∙◌, append_assoc}
 use Rattle.ir_text.specs.Tokens.{Lexeme}
 use Rattle.ir_text.specs.Language.{Language, ◌·◌}
 use Rattle.ir_text.specs.Mentions.{Mention, Mentioning, ◌⊙◌}
