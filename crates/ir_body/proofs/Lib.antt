@@ -16,3 +16,4 @@ pub mod DroppedWords
 pub mod PlainTellers
 pub mod ValueTellers
 pub mod OperandAt
+pub mod GatheredTellers
