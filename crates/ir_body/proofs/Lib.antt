@@ -17,3 +17,7 @@ pub mod PlainTellers
 pub mod ValueTellers
 pub mod OperandAt
 pub mod GatheredTellers
+pub mod TypeFirst
+pub mod CaseTellers
+pub mod AlignedTellers
+pub mod ListTellers
