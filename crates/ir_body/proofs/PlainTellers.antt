@@ -13,7 +13,7 @@ use Rattle.ir_text.specs.Listed.{word}
 use Rattle.ir_text.specs.Mentions.{Mention, Mentioning, ◌⊙◌, silent}
 use Rattle.ir_grammar.specs.Operations.{flag_kind, SpellsBinaryFlags, SpellsOperand, SpellsBlockName, SpellsTyped, SpellsTarget, SpellsTwo, the_word, the_comma, dropped_word, pred_text}
 use Rattle.ir_parts.specs.Reading.{Read, begins, is_keyword}
-use Rattle.ir_parts.proofs.Readers.{IsReader, StopsAt, Anything, chosen, refused_there}
+use Rattle.ir_parts.proofs.Readers.{IsReader, Anything, chosen, refused_there}
 use Rattle.ir_parts.proofs.SingleTokens.{is_itself, is_word}
 use Rattle.ir_body.specs.declared.operands.Two.{Two}
 use Rattle.ir_body.specs.declared.flags.Flags.{Flags}
@@ -21,12 +21,13 @@ use Rattle.ir_body.specs.declared.operation.Operation.{Operation}
 use Rattle.ir_body.specs.Operands.{block_name_at}
 use Rattle.ir_body.specs.Flags.{flags_at}
 use Rattle.ir_body.specs.Plain.{plain, binary_at, br_at, ret_at, comparison_at, freeze_at, jump_at, branch_at, nothing_returned_at, value_returned_at}
-use Rattle.ir_body.proofs.Tellers.{IsTeller, IsMade, silent_tells, both, both_told, skip, made_told, word_tells, sign_tells}
+use Rattle.ir_body.proofs.Tellers.{IsTeller, IsMade, silent_tells, both, skip, made_told, word_tells, sign_tells}
 use Rattle.ir_body.proofs.OperandTellers.{operand_tells, block_name_tells, typed_tells, target_tells, two_tells}
 use Rattle.ir_body.proofs.WordReaders.{predicate_reads}
-use Rattle.ir_body.proofs.Firsts.{first_begins_not, word_begins_not}
+use Rattle.ir_body.proofs.Firsts.{first_begins_not, word_begins_not, type_begins_not}
 use Rattle.ir_body.proofs.DroppedWords.{drop_tells}
-use Rattle.ir_body.proofs.FlagReaders.{NoFlagsBehind, spelled_flags, flags_read, flags_stop, scalar_is_no}
+use Rattle.ir_body.proofs.FlagReaders.{spelled_flags, scalar_is_no}
+use Rattle.ir_body.proofs.FlagTellers.{flags_tell}
 
 -- ---- operations of two operands
 
@@ -41,10 +42,8 @@ make_binary op read = plain (Binary op read.0.nuw read.0.nsw read.0.exact read.0
 pub binary_tells : (op : BinOp) → IsTeller (binary_at op) (IsMade (make_binary op) (SpellsBinary op)) Anything
 unfolding binary_at flags_at
 binary_tells op = made_told (make_binary op) (λ t. Unit {0})
-    (both_told (silent_tells (flags_read (flag_kind op))) two_tells (λ flags two ms taken rest l stops.
-    subst (λ (ts : List Lexeme). StopsAt (NoFlagsBehind (flag_kind op) flags) ts)
-    (sym (ap (λ (ts : List Lexeme). ts ++ rest) l.3.2 ∙ append_assoc l.3.0 l.3.1 rest))
-    (flags_stop (flag_kind op) flags two.kind l.3.0 (l.3.1 ++ rest) l.3.3.1)))
+    (flags_tell (flag_kind op) two_tells (λ text no_int no_ptr two. first_begins_not (is_keyword text)
+    (type_begins_not text no_int no_ptr two.kind)))
 
 -- ---- comparisons
 

@@ -1,11 +1,13 @@
 -- Flags of operations.
-use Rattle.std.specs.Prelude.{ℕ, Bool, true, false, List, codes}
+use Rattle.std.specs.Prelude.{ℕ, Bool, true, false, List, [], ◌∷◌, codes}
 use Rattle.ir_model.specs.declared.op.BinOp.{BinOp}
 use Rattle.ir_model.specs.declared.op.CastOp.{CastOp}
 use Rattle.ir_model.specs.declared.op.CastOp.TheVariants as cast
 use Rattle.ir_grammar.specs.Operations.{FlagKind, Wraps, Exact, Disjoint, NoFlag, flag_kind}
+use Rattle.ir_text.specs.PassedOn.{is_among}
 use Rattle.ir_parts.specs.Reading.{Read, pure, ◌>>=◌, ◌▷◌, made, choose, is_keyword, keyword_at}
 use Rattle.ir_body.specs.declared.flags.Flags.{Flags}
+use Rattle.ir_body.specs.FlagWords.{words_at}
 
 -- whether the word stands there
 unfoldable pub flag_at : List ℕ → Read Bool
@@ -18,13 +20,20 @@ dropped_at text = made (λ _. tt) (flag_at text)
 abbrev pub wrap_flags : Bool → Bool → Flags
 wrap_flags nuw nsw = record { nuw = nuw; nsw = nsw; exact = false; disjoint = false }
 
--- `nuw` and `nsw`, each at most once, in any order
+-- two words, each at most once, in any order
+unfoldable pub pair_at : List ℕ → List ℕ → Read (Bool × Bool)
+pair_at one other = made (λ found. (is_among found one, is_among found other)) (words_at 2 (one ∷ other ∷ []))
+
+-- `nuw` and `nsw`
 unfoldable pub wraps_at : Read Flags
-wraps_at = choose (is_keyword (codes "nuw"))
-    (keyword_at (codes "nuw") >>= λ _. flag_at (codes "nsw") >>= λ nsw. pure (wrap_flags true nsw))
-    (choose (is_keyword (codes "nsw"))
-    (keyword_at (codes "nsw") >>= λ _. flag_at (codes "nuw") >>= λ nuw. pure (wrap_flags nuw true))
-    (pure (wrap_flags false false)))
+wraps_at = made (λ set. wrap_flags set.0 set.1) (pair_at (codes "nuw") (codes "nsw"))
+
+-- the flags of `getelementptr`: whether `inbounds` is among them; the others are dropped
+abbrev pub gep_words : List (List ℕ)
+gep_words = codes "inbounds" ∷ codes "nuw" ∷ codes "nusw" ∷ []
+
+unfoldable pub gep_flags_at : Read Bool
+gep_flags_at = made (λ found. is_among found (codes "inbounds")) (words_at 3 gep_words)
 
 unfoldable pub exact_at : Read Flags
 exact_at = made (λ exact. record { nuw = false; nsw = false; exact = exact; disjoint = false })

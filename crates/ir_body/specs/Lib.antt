@@ -5,5 +5,10 @@ pub mod Opcodes
 pub mod Flags
 pub mod Plain
 pub mod Values
-pub mod Views
+pub mod FlagWords
 pub mod Gathered
+pub mod Cases
+pub mod Aligned
+pub mod Lists
+pub mod Operation
+pub mod Views

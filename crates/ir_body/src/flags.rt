@@ -1,8 +1,9 @@
 //! Flags of operations.
 
-ghost use Rattle.std.specs.Prelude.{◌≡◌, ◌≤◌, length, Ok};
+ghost use Rattle.std.specs.Prelude.{◌≡◌, ◌≤◌, length, Ok, false};
+ghost use Rattle.std.specs.Str.{bytes_eq};
 ghost use Rattle.ir_parts.specs.Reading.{left_from};
-ghost use Rattle.ir_body.specs.Flags.{flag_at, dropped_at, wraps_at, exact_at, disjoint_at, flags_at, cast_flags_at};
+ghost use Rattle.ir_body.specs.Flags.{flag_at, dropped_at, pair_at, wraps_at, gep_flags_at, exact_at, disjoint_at, flags_at, cast_flags_at};
 
 use ir_lex::Tokens;
 use ir_model::{BinOp, CastOp};
@@ -64,36 +65,56 @@ pub(crate) fn read_flags(tokens: &Tokens<'_>, from: usize, op: BinOp) -> (Flags,
     }
 }
 
-/// `nuw` and `nsw`, each at most once, in any order.
+/// Two words, each at most once, in any order: which of them stand there.
+#[tactic(auto, unfolding(crate::specs::Flags::pair_at))]
+fn pair(tokens: &Tokens<'_>, from: usize, one: &[u8], other: &[u8]) -> ((bool, bool), usize)
+    requires from { from ≤ length tokens.now.tokens }
+    requires apart { bytes_eq one.now other.now ≡ false }
+    ensures value { pair_at one.now other.now (left_from tokens.now from) ≡ Ok (result.0, left_from tokens.now result.1) }
+    ensures forth { (from ≤ result.1) × (result.1 ≤ length tokens.now.tokens) }
+{
+    if starts_keyword(tokens, from, one) {
+        let (set, at) = read_flag(tokens, from + 1, other);
+        return ((true, set), at);
+    }
+    if starts_keyword(tokens, from, other) {
+        let (set, at) = read_flag(tokens, from + 1, one);
+        return ((set, true), at);
+    }
+    ((false, false), from)
+}
+
+/// `nuw` and `nsw`.
 #[tactic(auto, unfolding(crate::specs::Flags::wraps_at))]
 fn wraps(tokens: &Tokens<'_>, from: usize) -> (Flags, usize)
     requires { from ≤ length tokens.now.tokens }
     ensures value { wraps_at (left_from tokens.now from) ≡ Ok (result.0, left_from tokens.now result.1) }
     ensures forth { (from ≤ result.1) × (result.1 ≤ length tokens.now.tokens) }
 {
+    let ((nuw, nsw), at) = pair(tokens, from, b"nuw", b"nsw");
+    (Flags { nuw, nsw, ..NONE }, at)
+}
+
+/// The flags of `getelementptr`: whether `inbounds` is among them. `nuw` and `nusw` are dropped.
+#[tactic(auto, unfolding(crate::specs::Flags::gep_flags_at))]
+pub(crate) fn read_gep_flags(tokens: &Tokens<'_>, from: usize) -> (bool, usize)
+    requires { from ≤ length tokens.now.tokens }
+    ensures value { gep_flags_at (left_from tokens.now from) ≡ Ok (result.0, left_from tokens.now result.1) }
+    ensures forth { (from ≤ result.1) × (result.1 ≤ length tokens.now.tokens) }
+{
+    if starts_keyword(tokens, from, b"inbounds") {
+        let (_, at) = pair(tokens, from + 1, b"nuw", b"nusw");
+        return (true, at);
+    }
     if starts_keyword(tokens, from, b"nuw") {
-        let (nsw, at) = read_flag(tokens, from + 1, b"nsw");
-        return (
-            Flags {
-                nuw: true,
-                nsw,
-                ..NONE
-            },
-            at,
-        );
+        let (set, at) = pair(tokens, from + 1, b"inbounds", b"nusw");
+        return (set.0, at);
     }
-    if starts_keyword(tokens, from, b"nsw") {
-        let (nuw, at) = read_flag(tokens, from + 1, b"nuw");
-        return (
-            Flags {
-                nuw,
-                nsw: true,
-                ..NONE
-            },
-            at,
-        );
+    if starts_keyword(tokens, from, b"nusw") {
+        let (set, at) = pair(tokens, from + 1, b"inbounds", b"nuw");
+        return (set.0, at);
     }
-    (NONE, from)
+    (false, from)
 }
 
 #[tactic(auto, unfolding(crate::specs::Flags::exact_at))]
