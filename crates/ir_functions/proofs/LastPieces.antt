@@ -115,7 +115,7 @@ form_of piece (inr (inr (inr (inr (inr (t, parts, is)))))) = otherwise (inr (rw 
 word_ends : (t : Lexeme) → t.kind ≡ kind.Word → ending_of (t ∷ []) ≡ (if is_placing t.text then Placing else Word)
 word_ends t is = rw is refl
 
-placed_ends : (name : List ℕ) (t : Lexeme) → t.kind ≡ kind.Numeral → ending_of (word name ∷ t ∷ []) ≡ Placed
+pub placed_ends : (name : List ℕ) (t : Lexeme) → t.kind ≡ kind.Numeral → ending_of (word name ∷ t ∷ []) ≡ Placed
 placed_ends name t is = rw is refl
 
 -- a word alone is the last piece

@@ -1,1 +1,4 @@
 pub mod LastPieces
+pub mod OperandTokens
+pub mod ArgumentRuns
+pub mod ArgumentTellers
