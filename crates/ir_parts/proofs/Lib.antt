@@ -10,3 +10,5 @@ pub mod Closing
 pub mod Told
 pub mod ClosedReader
 pub mod MetadataReaders
+pub mod SaidNames
+pub mod LookedUp

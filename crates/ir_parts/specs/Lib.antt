@@ -6,3 +6,5 @@ pub mod WordsReading
 pub mod MetadataReading
 pub mod ListReading
 pub mod Sentences
+pub mod Tables
+pub mod Literals

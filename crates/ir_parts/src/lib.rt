@@ -3,9 +3,13 @@
 
 mod brackets;
 mod cursor;
+mod escapes;
 mod fault;
 mod forms;
+mod global_names;
+mod literals;
 mod metadata;
+mod names;
 mod numbers;
 mod out_of_memory;
 mod read_types;
@@ -13,9 +17,13 @@ mod types;
 mod words;
 
 pub use cursor::{behind_keyword, behind_sign, next, starts_keyword, starts_sign};
+pub use escapes::unescape;
 pub use fault::ItemFault;
 pub use forms::{inner_text, is_number, is_string_text};
+pub use global_names::read_global_name;
+pub use literals::{numeral, word_operand};
 pub use metadata::{skip_metadata, skip_pairs};
+pub use names::{is_global, is_local, is_signed_number};
 pub use read_types::{
     read_int_type, read_returned_type, read_scalar_type, read_stored_type, read_type,
 };
