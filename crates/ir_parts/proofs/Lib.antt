@@ -12,3 +12,10 @@ pub mod ClosedReader
 pub mod MetadataReaders
 pub mod SaidNames
 pub mod LookedUp
+pub mod StringTexts
+pub mod PieceTokens
+pub mod Optional
+pub mod PieceReaders
+pub mod PieceSayings
+pub mod RunReader
+pub mod TakingReader

@@ -1,6 +1,5 @@
 -- Reading things one after another, as a loop does.
-use Rattle.std.proofs.Common.{◌≡◌, ℕ, zero, suc, ◌-◌, ◌<◌, ◌≤◌, Bool, true, false, ◌||◌, List, [], ◌∷◌, ◌++◌, length, Result, Ok, Err, refl, sym, ap, ◌∙◌, append_assoc, arith}
-use Rattle.std.specs.List.{list_any}
+use Rattle.std.proofs.Common.{◌≡◌, ℕ, zero, suc, ◌-◌, ◌<◌, ◌≤◌, Bool, true, false, List, [], ◌∷◌, ◌++◌, length, Result, Ok, Err, refl, sym, ap, ◌∙◌, append_assoc, arith}
 use Rattle.std.proofs.lemmas.List.{append-nil}
 use Rattle.ir_text.specs.Tokens.{Lexeme}
 use Rattle.ir_lex.specs.Tokenized.{Tokenized}
@@ -107,13 +106,6 @@ pub faults_on : {X Y A B : Type 0} (view : X → A) (other : Y → B) (t : Token
     → ReadsAs view t (Err fault) r → ReadsAs other t (Err fault) (go_on r f)
 faults_on view other t OutOfMemory r f e = tt
 faults_on view other t (CannotGoOn at) r f e = (ap (λ r. go_on r f) e.0, e.1)
-
--- one more that may be true
-pub any_more : (bs : List Bool) (b : Bool) → list_any (λ b. b) (bs ++ b ∷ []) ≡ (list_any (λ b. b) bs || b)
-any_more [] true = refl
-any_more [] false = refl
-any_more (true ∷ bs) b = refl
-any_more (false ∷ bs) b = any_more bs b
 
 -- ---- things that say nothing
 

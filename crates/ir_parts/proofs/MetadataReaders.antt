@@ -1,5 +1,5 @@
 -- Attachments are read.
-use Rattle.std.proofs.Common.{◌≡◌, ℕ, suc, Bool, true, false, ◌||◌, ◌&&◌, not, ◌==◌, List, [], ◌∷◌, ◌++◌, length, Err, inl, inr, refl, sym, ap, subst, ◌∙◌, IsTrue, codes}
+use Rattle.std.proofs.Common.{◌≡◌, ℕ, suc, Bool, true, false, ◌||◌, ◌&&◌, not, ◌==◌, List, [], ◌∷◌, ◌++◌, length, Err, inl, inr, refl, sym, ap, subst, IsTrue, codes}
 use Rattle.std.proofs.lemmas.Bool.{and_parts, eqb-true}
 use Rattle.ir_text.specs.declared.token.TokenKind.{TokenKind}
 use Rattle.ir_text.specs.declared.token.TokenKind.TheVariants.{Metadata}
@@ -15,7 +15,7 @@ use Rattle.ir_text.specs.Language.{Language, ◌·◌, ◌or◌, one, comma, Man
 use Rattle.ir_text.specs.Language.Many.{none, more}
 use Rattle.ir_text.specs.PassedOn.{IsMetadataWord, IsMetadataNumber, IsBang, in_parentheses, in_braces, metadata_node, attachments, metadata_pairs}
 use Rattle.ir_parts.specs.Reading.{token_at, begins, is_punctuation}
-use Rattle.ir_parts.specs.WordsReading.{is_signed, parentheses_at}
+use Rattle.ir_parts.specs.WordsReading.{parentheses_at}
 use Rattle.ir_parts.specs.MetadataReading.{is_metadata_kind, is_metadata, is_word_text, is_number_text, is_bang_text, is_metadata_word, is_metadata_number, is_bang, braces_at, braced_node_at, named_node_at, node_at, attached_at, attachment_at, attachments_at, pair_at, pairs_at}
 use Rattle.ir_parts.proofs.Readers.{IsReader, Anything, of_language, mapped, chosen}
 use Rattle.ir_parts.proofs.Repeated.{Behind, repeated}
@@ -28,11 +28,6 @@ use Rattle.ir_parts.proofs.ClosedReader.{round_closed, curly_closed}
 metadata_kind : (kind : TokenKind) → is_metadata_kind kind ≡ true → kind ≡ Metadata
 metadata_kind Metadata e = refl
 metadata_kind _ e = absurd cc
-
-signed_number : (text : List ℕ) → is_signed text ≡ is_signed_number text
-unfolding is_signed is_signed_number
-signed_number [] = refl
-signed_number (b ∷ bs) = refl
 
 word_text : (text : List ℕ) → is_word_text text ≡ true → (name : List ℕ) × (text ≡ 33 ∷ name) × IsTrue (is_word name)
 unfolding is_word_text
@@ -50,12 +45,12 @@ number_text : (text : List ℕ) → is_number_text text ≡ true → (number : L
 unfolding is_number_text
 number_text [] e = absurd cc
 number_text (b ∷ bs) e =
-    let parts = and_parts (b == 33) (is_signed bs) e in
-    (bs, ap (λ (b : ℕ). b ∷ bs) (eqb-true b 33 parts.0), sym (signed_number bs) ∙ parts.1)
+    let parts = and_parts (b == 33) (is_signed_number bs) e in
+    (bs, ap (λ (b : ℕ). b ∷ bs) (eqb-true b 33 parts.0), parts.1)
 
 text_number : (number : List ℕ) → IsTrue (is_signed_number number) → is_number_text (33 ∷ number) ≡ true
 unfolding is_number_text
-text_number number e = signed_number number ∙ e
+text_number number e = e
 
 bang_text : (text : List ℕ) → is_bang_text text ≡ true → text ≡ 33 ∷ []
 unfolding is_bang_text
@@ -93,7 +88,7 @@ bang_back t is = rw (is.0, is.1) refl
 -- ---- readers
 
 -- a token of a kind
-single : (test : Lexeme → Bool) (Is : Lexeme → Type 0) → ((t : Lexeme) → test t ≡ true → Is t) → ((t : Lexeme)
+pub single : (test : Lexeme → Bool) (Is : Lexeme → Type 0) → ((t : Lexeme) → test t ≡ true → Is t) → ((t : Lexeme)
     → Is t → test t ≡ true)
     → (t : Lexeme) → Is t → IsReader (token_at test) (λ (x : Unit {0}). one Is) Anything
 single test Is there back t is = of_language (λ (x : Unit {0}). one Is)
@@ -151,11 +146,11 @@ word_is_no_bang : (t : Lexeme) → IsMetadataWord t → is_bang t ≡ false
 word_is_no_bang t is = rw (is.0, is.2) (no_bang is.1 is.3)
 
 -- what begins with a token that passes, or fails, a test
-starts_with_one : (test : Lexeme → Bool) (Is : Lexeme → Type 0) (B : Language) → ((t : Lexeme) → Is t → test t ≡ true)
+pub starts_with_one : (test : Lexeme → Bool) (Is : Lexeme → Type 0) (B : Language) → ((t : Lexeme) → Is t → test t ≡ true)
     → (ts : List Lexeme) → (one Is · B) ts → begins test ts ≡ true
 starts_with_one test Is B back ts l = rw (l.2, l.3.1) (back l.3.0 l.3.2)
 
-starts_otherwise : (test : Lexeme → Bool) (Is : Lexeme → Type 0) (B : Language) → ((t : Lexeme) → Is t → test t ≡ false)
+pub starts_otherwise : (test : Lexeme → Bool) (Is : Lexeme → Type 0) (B : Language) → ((t : Lexeme) → Is t → test t ≡ false)
     → (taken rest : List Lexeme) → (one Is · B) taken → begins test (taken ++ rest) ≡ false
 starts_otherwise test Is B other taken rest l = rw (l.2, l.3.1) (other l.3.0 l.3.2)
 
@@ -175,8 +170,8 @@ neither true d e p q = absurd cc
 neither false true e p q = absurd cc
 neither false false e p q = refl
 
-word_no_number : (name : List ℕ) → IsTrue (is_word name) → is_signed name ≡ false
-unfolding is_word is_signed
+word_no_number : (name : List ℕ) → IsTrue (is_word name) → is_signed_number name ≡ false
+unfolding is_word is_signed_number
 word_no_number [] e = refl
 word_no_number (b ∷ bs) e =
     let all = and_parts (begins_word b && list_all goes_on_word bs) (not (bytes_eq (b ∷ bs) dots)) e in
@@ -193,7 +188,7 @@ unfolding is_number_text
 word_is_no_number t is = rw (is.0, is.2) (word_no_number is.1 is.3)
 
 bang_is_no_number : (t : Lexeme) → IsBang t → is_metadata_number t ≡ false
-unfolding is_number_text is_signed
+unfolding is_number_text is_signed_number
 bang_is_no_number t is = rw (is.0, is.1) refl
 
 node_no_number : (taken rest : List Lexeme) → metadata_node taken → begins is_metadata_number (taken ++ rest) ≡ false

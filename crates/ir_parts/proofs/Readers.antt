@@ -198,6 +198,26 @@ module _ {X : Type 0} {read : Read X} {L : X → List Lexeme → Type 0} {Stop :
     sample = r.sample;
   }
 
+  -- the same tokens stop each sentence
+  pub of_sentence_stop : (Halt : X → Lexeme → Type 0)
+      → ((x : X) (ts : List Lexeme) (t : Lexeme) → L x ts → Stop x t → Halt x t)
+      → ((x : X) (ts : List Lexeme) (t : Lexeme) → L x ts → Halt x t → Stop x t)
+      → IsReader read L Stop → IsReader read L Halt
+  of_sentence_stop Halt there back r = record {
+    takes = λ ts rest x e. let t = r.takes ts rest x e in record {
+      taken = t.taken;
+      parts = t.parts;
+      spelled = t.spelled;
+      stops = stops_also rest (λ u stop. there x t.taken u t.spelled stop) t.stops;
+    };
+    reads = λ x taken rest l stops.
+        r.reads x taken rest l (stops_also rest (λ u halt. back x taken u l halt) stops);
+    refuses = r.refuses;
+    some = r.some;
+    sentence = r.sentence;
+    sample = r.sample;
+  }
+
   -- what is made of what was read
   pub mapped : {Y : Type 0} (make : X → Y) (Halt : Y → Lexeme → Type 0)
       → ((x : X) (t : Lexeme) → Stop x t → Halt (make x) t)
@@ -423,38 +443,49 @@ then_reads f B StopB first then_each =
 
 -- ---- one of two, by the first token
 
-pub chosen : {X : Type 0} (test : Lexeme → Bool) {there other : Read X} {A B : X → List Lexeme → Type 0} {Stop : X
-    → Lexeme → Type 0}
-    → IsReader there A Stop → IsReader other B Stop
+-- What stops the second may be said with the test's failure.
+pub chosen_apart : {X : Type 0} (test : Lexeme → Bool) {there other : Read X} {A B : X → List Lexeme
+    → Type 0} {Stop StopB : X → Lexeme → Type 0}
+    → IsReader there A Stop → IsReader other B StopB
     → ((x : X) (ts : List Lexeme) → A x ts → begins test ts ≡ true)
     → ((x : X) (taken rest : List Lexeme) → B x taken → StopsAt (Stop x) rest → begins test (taken ++ rest) ≡ false)
     → ((t : Lexeme) (ts : List Lexeme) → test t ≡ true → there (t ∷ ts) ≡ Err (suc (length ts)) → ⊥)
+    → ((x : X) (taken rest : List Lexeme) → B x taken → begins test (taken ++ rest) ≡ false → StopsAt (StopB x) rest
+    → StopsAt (Stop x) rest)
+    → ((x : X) (taken rest : List Lexeme) → B x taken → StopsAt (Stop x) rest → StopsAt (StopB x) rest)
     → IsReader (choose test there other) (λ x. A x or B x) Stop
-chosen {X} test {there} {other} {A} {B} {Stop} there_reads other_reads starts parted begun = record {
-  takes = λ ts rest x e. elim (either (begins test ts)) [
-    | inl passed ↦
-        let t = there_reads.takes ts rest x (sym (chosen_first test there other ts passed) ∙ e) in
-        record { taken = t.taken; parts = t.parts; spelled = inl t.spelled; stops = t.stops }
-    | inr failed ↦
-        let t = other_reads.takes ts rest x (sym (chosen_other test there other ts failed) ∙ e) in
-        record { taken = t.taken; parts = t.parts; spelled = inr t.spelled; stops = t.stops }
-  ];
-  reads = λ x taken rest l stops. elim l [
-    | inl a ↦
-        chosen_first test there other (taken ++ rest) (begins_still test taken rest (starts x taken a))
-        ∙ there_reads.reads x taken rest a stops
-    | inr b ↦
-        chosen_other test there other (taken ++ rest) (parted x taken rest b stops)
-        ∙ other_reads.reads x taken rest b stops
-  ];
-  refuses = λ ts left e. elim (either (begins test ts)) [
-    | inl passed ↦ there_refused ts left passed (sym (chosen_first test there other ts passed) ∙ e)
-    | inr failed ↦ other_refused ts left failed (sym (chosen_other test there other ts failed) ∙ e)
-  ];
-  some = there_reads.some;
-  sentence = there_reads.sentence;
-  sample = inl there_reads.sample;
-}
+chosen_apart {X} test {there} {other} {A} {B} {Stop} there_reads other_reads starts parted begun stops_so stops_back =
+    record {
+      takes = λ ts rest x e. elim (either (begins test ts)) [
+        | inl passed ↦
+            let t = there_reads.takes ts rest x (sym (chosen_first test there other ts passed) ∙ e) in
+            record { taken = t.taken; parts = t.parts; spelled = inl t.spelled; stops = t.stops }
+        | inr failed ↦
+            let t = other_reads.takes ts rest x (sym (chosen_other test there other ts failed) ∙ e) in
+            let failed_there : begins test (t.taken ++ rest) ≡ false = ap (begins test) (sym t.parts) ∙ failed in
+            record {
+              taken = t.taken;
+              parts = t.parts;
+              spelled = inr t.spelled;
+              stops = stops_so x t.taken rest t.spelled failed_there t.stops;
+            }
+      ];
+      reads = λ x taken rest l stops. elim l [
+        | inl a ↦
+            chosen_first test there other (taken ++ rest) (begins_still test taken rest (starts x taken a))
+            ∙ there_reads.reads x taken rest a stops
+        | inr b ↦
+            chosen_other test there other (taken ++ rest) (parted x taken rest b stops)
+            ∙ other_reads.reads x taken rest b (stops_back x taken rest b stops)
+      ];
+      refuses = λ ts left e. elim (either (begins test ts)) [
+        | inl passed ↦ there_refused ts left passed (sym (chosen_first test there other ts passed) ∙ e)
+        | inr failed ↦ other_refused ts left failed (sym (chosen_other test there other ts failed) ∙ e)
+      ];
+      some = there_reads.some;
+      sentence = there_reads.sentence;
+      sample = inl there_reads.sample;
+    }
   where
     there_refused : (ts : List Lexeme) (left : ℕ) → begins test ts ≡ true → there ts ≡ Err left
         → Refused (choose test there other) (λ x. A x or B x) ts left
@@ -499,6 +530,18 @@ chosen {X} test {there} {other} {A} {B} {Stop} there_reads other_reads starts pa
               ∙ (ap (λ (after : List Lexeme). begins test (r.before ++ after)) (sym e) ∙ failed_there))
               ∙ r.stays t behind instead e;
         }
+
+-- where the same stops both
+pub chosen : {X : Type 0} (test : Lexeme → Bool) {there other : Read X} {A B : X → List Lexeme → Type 0} {Stop : X
+    → Lexeme → Type 0}
+    → IsReader there A Stop → IsReader other B Stop
+    → ((x : X) (ts : List Lexeme) → A x ts → begins test ts ≡ true)
+    → ((x : X) (taken rest : List Lexeme) → B x taken → StopsAt (Stop x) rest → begins test (taken ++ rest) ≡ false)
+    → ((t : Lexeme) (ts : List Lexeme) → test t ≡ true → there (t ∷ ts) ≡ Err (suc (length ts)) → ⊥)
+    → IsReader (choose test there other) (λ x. A x or B x) Stop
+chosen test there_reads other_reads starts parted begun =
+    chosen_apart test there_reads other_reads starts parted begun
+    (λ x taken rest b failed stops. stops) (λ x taken rest b stops. stops)
 
 -- ---- what a reading tells of the language
 

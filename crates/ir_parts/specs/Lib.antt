@@ -3,6 +3,7 @@ pub mod Places
 pub mod TypeReading
 pub mod BracketsReading
 pub mod WordsReading
+pub mod Runs
 pub mod MetadataReading
 pub mod ListReading
 pub mod Sentences

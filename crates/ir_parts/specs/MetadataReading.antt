@@ -2,11 +2,11 @@
 use Rattle.std.specs.Prelude.{ℕ, Bool, true, false, ◌&&◌, ◌==◌, List, [], ◌∷◌}
 use Rattle.ir_text.specs.declared.token.TokenKind.{TokenKind}
 use Rattle.ir_text.specs.declared.token.TokenKind.TheVariants.{Metadata}
-use Rattle.ir_text.specs.Names.{is_word}
+use Rattle.ir_text.specs.Names.{is_word, is_signed_number}
 use Rattle.ir_text.specs.Tokens.{Lexeme}
 use Rattle.ir_parts.specs.Reading.{Read, ◌>>=◌, pure, token_at, is_punctuation, punctuation_at, choose, repeated_at}
 use Rattle.ir_parts.specs.BracketsReading.{closed_at}
-use Rattle.ir_parts.specs.WordsReading.{is_signed, parentheses_at}
+use Rattle.ir_parts.specs.WordsReading.{parentheses_at}
 
 abbrev pub is_metadata_kind : TokenKind → Bool
 is_metadata_kind Metadata = true
@@ -22,7 +22,7 @@ is_word_text (b ∷ bs) = (b == 33) && is_word bs
 
 unfoldable pub is_number_text : List ℕ → Bool
 is_number_text [] = false
-is_number_text (b ∷ bs) = (b == 33) && is_signed bs
+is_number_text (b ∷ bs) = (b == 33) && is_signed_number bs
 
 unfoldable pub is_bang_text : List ℕ → Bool
 is_bang_text [] = false

@@ -3,7 +3,7 @@
 ghost use Rattle.std.specs.Prelude.{◌≡◌, ◌-◌, ◌<◌, IsTrue, length, take, drop};
 ghost use Rattle.std.specs.List.{list_all};
 ghost use Rattle.ir_text.specs.Bytes.{is_no_quote, is_digit};
-ghost use Rattle.ir_text.specs.Names.{is_number};
+ghost use Rattle.ir_text.specs.Names.{is_number, is_signed_number};
 ghost use Rattle.ir_text.specs.Said.{is_string_text, inner_text};
 
 use crate::numbers::are_digits;
@@ -15,6 +15,17 @@ pub fn is_number(text: &[u8]) -> bool
     ensures digits { IsTrue result → IsTrue (list_all is_digit text.now) }
 {
     0 < text.len() && text.len() <= 39 && are_digits(text)
+}
+
+/// Whether a text is such a number, maybe behind a `-`.
+#[tactic(auto, unfolding(ir_text::specs::Names::is_signed_number))]
+pub fn is_signed_number(text: &[u8]) -> bool
+    ensures { result ≡ is_signed_number text.now }
+{
+    match text {
+        [] => false,
+        [first, rest @ ..] => is_number(text) || *first == b'-' && is_number(rest),
+    }
 }
 
 /// Whether a text is a string: quotes around bytes of which none is a quote.

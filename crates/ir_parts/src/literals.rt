@@ -4,7 +4,7 @@ ghost use Rattle.std.specs.Prelude.{◌≡◌, IfSome};
 ghost use Rattle.std.specs.Str.Parse.{signed_digits_value};
 ghost use Rattle.ir_parts.specs.Literals.{word_operand};
 
-use crate::names::is_signed_number;
+use crate::forms::is_signed_number;
 use ir_lex::signed_value;
 use ir_model::Operand;
 

@@ -9,7 +9,8 @@ ghost use Rattle.ir_parts.specs.MetadataReading.{is_metadata, is_word_text, is_n
 use crate::brackets::behind_brackets;
 use crate::cursor::{behind_sign, next, starts_sign};
 use crate::fault::ItemFault;
-use crate::words::{is_signed, parentheses};
+use crate::forms::is_signed_number;
+use crate::pieces::parentheses;
 use ir_lex::{TokenKind, Tokens};
 use ir_text::is_word;
 use std::alloc::Global;
@@ -238,7 +239,7 @@ fn is_number_text(text: &[u8]) -> bool
     ensures { result ≡ is_number_text text.now }
 {
     match text {
-        [b'!', number @ ..] => is_signed(number),
+        [b'!', number @ ..] => is_signed_number(number),
         _ => false,
     }
 }

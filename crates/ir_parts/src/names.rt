@@ -2,7 +2,6 @@
 
 ghost use Rattle.std.specs.Prelude.{◌≡◌, ◌∷◌, drop};
 ghost use Rattle.std.specs.Option.{is_some};
-ghost use Rattle.ir_text.specs.Names.{is_signed_number};
 ghost use Rattle.ir_text.specs.Said.{said, said_global_text, said_local, said_global};
 
 use crate::forms::{is_number, is_string_text};
@@ -32,17 +31,6 @@ fn is_global_name(written: &[u8]) -> bool
     ensures { result ≡ is_some (said_global_text written.now) }
 {
     is_word(written) || is_number(written) || is_string_text(written)
-}
-
-/// Whether a text is digits, maybe behind a `-`.
-#[tactic(auto, unfolding(ir_text::specs::Names::is_signed_number))]
-pub fn is_signed_number(text: &[u8]) -> bool
-    ensures { result ≡ is_signed_number text.now }
-{
-    match text.split_first() {
-        None => false,
-        Some((first, rest)) => is_number(text) || (*first == b'-' && is_number(rest)),
-    }
 }
 
 /// The text without its first byte.

@@ -1,7 +1,7 @@
 use Rattle.std.proofs.Common.{sym}
 use Rattle.ir_parts.specs.WordsReading.{is_string_token}
 use Rattle.ir_parts.proofs.Places.{token_passes, token_fails}
-use Rattle.ir_parts.proofs.words.string.Goals as goal
+use Rattle.ir_parts.proofs.pieces.string.Goals as goal
 
 pub returns-then-starts_string-clause-value : goal.returns-then-starts_string-clause-value
 returns-then-starts_string-clause-value c =

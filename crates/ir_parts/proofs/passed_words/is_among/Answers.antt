@@ -3,7 +3,7 @@ use Rattle.std.specs.List.{list_any}
 use Rattle.std.specs.Str.{bytes_eq}
 use Rattle.std.proofs.lemmas.Iterator.{YieldsList-from_slice}
 use Rattle.std.proofs.lemmas.Iterator.Search.{any_from_yields_List}
-use Rattle.ir_parts.proofs.words.is_among.Goals as goal
+use Rattle.ir_parts.proofs.passed_words.is_among.Goals as goal
 
 any_text : (text : List ℕ) (texts : List (Bor (List ℕ)))
     → list_any (λ (each : Bor (List ℕ)). bytes_eq each.now text) texts ≡ list_any (λ each. bytes_eq each text) (map (λ

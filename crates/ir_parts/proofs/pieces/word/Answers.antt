@@ -1,7 +1,7 @@
 use Rattle.std.proofs.Common.{sym}
 use Rattle.ir_parts.specs.WordsReading.{passed_word}
 use Rattle.ir_parts.proofs.Places.{one_given, one_not_given}
-use Rattle.ir_parts.proofs.words.word.Goals as goal
+use Rattle.ir_parts.proofs.pieces.word.Goals as goal
 
 pub returns-in-Some-clause-value : goal.returns-in-Some-clause-value
 returns-in-Some-clause-value c = one_given c.args.tokens.now c.args.from passed_word c.in-Some.says (sym

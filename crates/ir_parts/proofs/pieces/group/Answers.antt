@@ -1,7 +1,7 @@
 use Rattle.std.proofs.Common.{sym}
 use Rattle.ir_parts.specs.WordsReading.{is_group}
 use Rattle.ir_parts.proofs.Places.{token_passes, token_fails}
-use Rattle.ir_parts.proofs.words.group.Goals as goal
+use Rattle.ir_parts.proofs.pieces.group.Goals as goal
 
 pub returns-then-starts_group-clause-value : goal.returns-then-starts_group-clause-value
 returns-then-starts_group-clause-value c =
