@@ -99,6 +99,18 @@ module _ {Y : Type 0} {a : Read (Unit {0})} {K : Language} where
       (λ y ts l. (y, (l.0, l.1, l.2, l.3, (refl, l.4))))
       (then_reads (λ y. a >>= λ x. pure y) (λ y z ts. (z ≡ y) × K ts) Anything first (λ y. stands_for y next))
 
+  -- the same where what stands before them goes on
+  pub before_stopping : {b : Read Y} {B : Y → List Lexeme → Type 0} {StopB : Y → Lexeme → Type 0}
+      → IsReader b B StopB → IsReader a (λ x. K) Anything
+      → ((y : Y) (taken rest : List Lexeme) → K taken → StopsAt (StopB y) (taken ++ rest))
+      → IsReader (b >>= λ y. a >>= λ x. pure y) (λ y. B y · K) Anything
+  before_stopping {b} {B} first next ends =
+      of_language (λ y. B y · K)
+      (λ y ts l. (l.1.0, l.1.1, l.1.2, subst (λ (z : Y). B z l.1.0) (sym l.1.4.0) l.1.3, l.1.4.1))
+      (λ y ts l. (y, (l.0, l.1, l.2, l.3, (refl, l.4))))
+      (followed (λ y. a >>= λ x. pure y) (λ y z ts. (z ≡ y) × K ts) Anything first (λ y. stands_for y next)
+      (λ x y taken rest l stops. ends x taken rest l.1))
+
 -- ---- where a reading refuses
 
 -- among its tokens, or at their end

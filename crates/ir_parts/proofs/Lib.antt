@@ -19,3 +19,7 @@ pub mod PieceReaders
 pub mod PieceSayings
 pub mod RunReader
 pub mod TakingReader
+pub mod ListReaders
+pub mod Decided
+pub mod PartsReader
+pub mod ListLoops

@@ -338,15 +338,17 @@ one_reads {X} what Is there back x t is = record {
 
 -- ---- one reading after another
 
--- The first is followed by what doesn't continue it.
-pub followed : {X Y : Type 0} {a : Read X} {A : X → List Lexeme → Type 0} {StopA : X → Lexeme → Type 0}
-    (f : X → Read Y) (B : X → Y → List Lexeme → Type 0) (StopB : Y → Lexeme → Type 0)
+-- What stands behind both continues neither: where the second is nothing, it doesn't continue the first.
+pub followed_until : {X Y : Type 0} {a : Read X} {A : X → List Lexeme → Type 0} {StopA : X → Lexeme → Type 0}
+    (f : X → Read Y) (B : X → Y → List Lexeme → Type 0) (StopB Halt : Y → Lexeme → Type 0)
     → IsReader a A StopA
     → ((x : X) → IsReader (f x) (B x) StopB)
-    → ((x : X) (y : Y) (taken rest : List Lexeme) → B x y taken → StopsAt (StopB y) rest
-    → StopsAt (StopA x) (taken ++ rest))
-    → IsReader (a >>= f) (λ y ts. (x : X) × (A x · B x y) ts) StopB
-followed {X} {Y} {a} {A} {StopA} f B StopB first then_each follows = record {
+    → ((x : X) (y : Y) (taken rest : List Lexeme) → B x y taken → StopsAt (StopA x) (taken ++ rest)
+    → StopsAt (StopB y) rest → StopsAt (Halt y) rest)
+    → ((x : X) (y : Y) (taken rest : List Lexeme) → B x y taken → StopsAt (Halt y) rest
+    → StopsAt (StopA x) (taken ++ rest) × StopsAt (StopB y) rest)
+    → IsReader (a >>= f) (λ y ts. (x : X) × (A x · B x y) ts) Halt
+followed_until {X} {Y} {a} {A} {StopA} f B StopB Halt first then_each halts stopped = record {
   takes = λ ts rest y e.
       let b = both_read (a ts) f (y, rest) e in
       let t = first.takes ts b.middle b.value b.first in
@@ -355,14 +357,15 @@ followed {X} {Y} {a} {A} {StopA} f B StopB first then_each follows = record {
         taken = t.taken ++ u.taken;
         parts = in_two_parts ts t.taken u.taken b.middle rest t.parts u.parts;
         spelled = (b.value, (t.taken, u.taken, refl, t.spelled, u.spelled));
-        stops = u.stops;
+        stops = halts b.value y u.taken rest u.spelled
+            (subst (λ (ts : List Lexeme). StopsAt (StopA b.value) ts) u.parts t.stops) u.stops;
       };
   reads = λ y taken rest l stops.
       subst (λ (ts : List Lexeme). go_on (a (ts ++ rest)) f ≡ Ok (y, rest)) (sym l.1.2)
       (subst (λ (ts : List Lexeme). go_on (a ts) f ≡ Ok (y, rest)) (sym (append_assoc l.1.0 l.1.1 rest))
       (ap (λ r. go_on r f)
-      (first.reads l.0 l.1.0 (l.1.1 ++ rest) l.1.3 (follows l.0 y l.1.1 rest l.1.4 stops))
-      ∙ (then_each l.0).reads y l.1.1 rest l.1.4 stops));
+      (first.reads l.0 l.1.0 (l.1.1 ++ rest) l.1.3 (stopped l.0 y l.1.1 rest l.1.4 stops).0)
+      ∙ (then_each l.0).reads y l.1.1 rest l.1.4 (stopped l.0 y l.1.1 rest l.1.4 stops).1));
   refuses = λ ts left e. elim (one_refused (a ts) f left e) [
     | inl refused ↦ first_refused ts left (first.refuses ts left refused)
     | inr b ↦ second_refused ts left b (first.takes ts b.middle b.value b.first)
@@ -432,6 +435,18 @@ followed {X} {Y} {a} {A} {StopA} f B StopB first then_each follows = record {
       where
         stops : StopsAt (StopA b.value) (r.before ++ r.after)
         stops = subst (λ (ts : List Lexeme). StopsAt (StopA b.value) ts) r.parts t.stops
+
+-- The first is followed by what doesn't continue it.
+pub followed : {X Y : Type 0} {a : Read X} {A : X → List Lexeme → Type 0} {StopA : X → Lexeme → Type 0}
+    (f : X → Read Y) (B : X → Y → List Lexeme → Type 0) (StopB : Y → Lexeme → Type 0)
+    → IsReader a A StopA
+    → ((x : X) → IsReader (f x) (B x) StopB)
+    → ((x : X) (y : Y) (taken rest : List Lexeme) → B x y taken → StopsAt (StopB y) rest
+    → StopsAt (StopA x) (taken ++ rest))
+    → IsReader (a >>= f) (λ y ts. (x : X) × (A x · B x y) ts) StopB
+followed f B StopB first then_each follows =
+    followed_until f B StopB StopB first then_each (λ x y taken rest b stops_first stops. stops)
+    (λ x y taken rest b stops. (follows x y taken rest b stops, stops))
 
 -- where nothing continues the first
 pub then_reads : {X Y : Type 0} {a : Read X} {A : X → List Lexeme → Type 0}

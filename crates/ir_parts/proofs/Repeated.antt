@@ -23,7 +23,7 @@ BehindLast test Stop [] t = test t ≡ false
 BehindLast test Stop (x ∷ []) t = (test t ≡ false) × Stop x t
 BehindLast test Stop (x ∷ y ∷ xs) t = BehindLast test Stop (y ∷ xs) t
 
-behind_later : {X : Type 0} (test : Lexeme → Bool) (Stop : X → Lexeme → Type 0) (x : X) (xs : List X) (t : Lexeme)
+pub behind_later : {X : Type 0} (test : Lexeme → Bool) (Stop : X → Lexeme → Type 0) (x : X) (xs : List X) (t : Lexeme)
     → BehindLast test Stop (x ∷ xs) t → BehindLast test Stop xs t
 behind_later test Stop x [] t h = h.0
 behind_later test Stop x (y ∷ xs) t h = h
@@ -75,14 +75,15 @@ module _ {X : Type 0} (test : Lexeme → Bool) {item : Read X} {L : X → List L
   both_stop x [] not stops = tt
   both_stop x (t ∷ ts) not stops = (not, stops)
 
-  stops_with_more : (x : X) (xs : List X) (taken rest : List Lexeme) → InSequence L xs taken
+  -- the thing before others, and those behind it, are stopped where all of them are
+  pub stops_with_more : (x : X) (xs : List X) (taken rest : List Lexeme) → InSequence L xs taken
       → StopsAt (Stop x) (taken ++ rest)
       → StopsAt (BehindLast test Stop xs) rest → StopsAt (BehindLast test Stop (x ∷ xs)) rest
   stops_with_more x [] taken rest l stops behind =
       both_stop x rest behind (subst (λ (ts : List Lexeme). StopsAt (Stop x) (ts ++ rest)) l stops)
   stops_with_more x (y ∷ xs) taken rest l stops behind = behind
 
-  next_stops : (x : X) (xs : List X) (taken rest : List Lexeme) → InSequence L xs taken
+  pub next_stops : (x : X) (xs : List X) (taken rest : List Lexeme) → InSequence L xs taken
       → StopsAt (BehindLast test Stop (x ∷ xs)) rest → StopsAt (Stop x) (taken ++ rest)
   next_stops x [] taken rest l stops =
       subst (λ (ts : List Lexeme). StopsAt (Stop x) (ts ++ rest)) (sym l) (stops_also rest (λ t h. h.1) stops)
