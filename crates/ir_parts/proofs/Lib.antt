@@ -23,3 +23,5 @@ pub mod ListReaders
 pub mod Decided
 pub mod PartsReader
 pub mod ListLoops
+pub mod Between
+pub mod WordsReader
