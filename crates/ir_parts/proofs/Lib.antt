@@ -25,3 +25,4 @@ pub mod PartsReader
 pub mod ListLoops
 pub mod Between
 pub mod WordsReader
+pub mod RunEnds

@@ -1,5 +1,5 @@
 -- What a run of passed-on words says by its pieces, and which tokens go on with it.
-use Rattle.std.specs.Prelude.{◌≡◌, ℕ, Bool, false, ◌||◌, if◌then◌else◌, List, [], ◌∷◌, codes}
+use Rattle.std.specs.Prelude.{◌≡◌, ℕ, Bool, false, ◌||◌, ◌&&◌, not, if◌then◌else◌, List, [], ◌∷◌, codes}
 use Rattle.ir_text.specs.Tokens.{Lexeme}
 use Rattle.ir_text.specs.Language.{Language}
 use Rattle.ir_text.specs.PassedOn.{is_among, is_quoted, ArePieces, begins_external, is_external, passed_text}
@@ -55,6 +55,10 @@ belongs_to _ t = false
 -- whether a token goes on with a run that ends so
 abbrev pub goes_on : Ending → Lexeme → Bool
 goes_on ending t = begins_piece t || belongs_to ending t
+
+-- whether a token goes on with no run, however the run ends
+abbrev pub ends_run : Lexeme → Bool
+ends_run t = not (begins_piece t) && not (is_punctuation 40 t) && not (is_numeral t) && not (is_punctuation 61 t)
 
 -- ---- the language
 
