@@ -1,11 +1,7 @@
 pub mod Readers
 pub mod Repeated
-pub mod UntilReader
-pub mod UpToReader
-pub mod ToEndReader
 pub mod Combined
 pub mod Together
-pub mod MaybeReader
 pub mod SingleTokens
 pub mod Places
 pub mod Loops
@@ -14,9 +10,8 @@ pub mod Closing
 pub mod Told
 pub mod ClosedReader
 pub mod MetadataReaders
-pub mod ListReaders
-pub mod Decided
-pub mod PartsReader
+pub mod SaidNames
+pub mod LookedUp
 pub mod StringTexts
 pub mod PieceTokens
 pub mod Optional
@@ -24,3 +19,10 @@ pub mod PieceReaders
 pub mod PieceSayings
 pub mod RunReader
 pub mod TakingReader
+pub mod ListReaders
+pub mod Decided
+pub mod PartsReader
+pub mod ListLoops
+pub mod Between
+pub mod WordsReader
+pub mod RunEnds
