@@ -28,7 +28,7 @@ use Rattle.ir_parts.proofs.PieceReaders.{neither_or}
 use Rattle.ir_parts.proofs.RunReader.{belongs_to_none}
 use Rattle.ir_parts.proofs.MetadataReaders.{word_no_number}
 use Rattle.ir_body.specs.Opcodes.{begins_call}
-use Rattle.ir_body.proofs.SaidNames.{local_there, local_back}
+use Rattle.ir_parts.proofs.SaidNames.{local_there, local_back}
 use Rattle.ir_functions.specs.Silent.{is_record, is_record_text, is_group_kind}
 use Rattle.ir_functions.specs.Lines.{is_local}
 

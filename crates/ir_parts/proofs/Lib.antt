@@ -1,7 +1,11 @@
 pub mod Readers
 pub mod Repeated
+pub mod UntilReader
+pub mod UpToReader
+pub mod ToEndReader
 pub mod Combined
 pub mod Together
+pub mod MaybeReader
 pub mod SingleTokens
 pub mod Places
 pub mod Loops
