@@ -1,5 +1,5 @@
 -- Operations with their attachments are read, and calls that are dropped.
-use Rattle.std.proofs.Common.{◌≡◌, ℕ, suc, Bool, true, false, List, [], ◌∷◌, ◌++◌, length, Option, Some, None, Err, ◌⊎◌, inl, inr, refl, sym, ap, subst, ◌∙◌, append_assoc, IsTrue, codes}
+use Rattle.std.proofs.Common.{◌≡◌, suc, Bool, true, false, List, [], ◌∷◌, ◌++◌, length, Option, Some, None, Err, ◌⊎◌, inl, inr, refl, sym, ap, subst, ◌∙◌, codes}
 use Rattle.std.proofs.lemmas.List.{append-nil}
 use Rattle.ir_model.specs.declared.types.IrType.TheVariants.{Void}
 use Rattle.ir_model.specs.declared.op.Op.TheVariants.{Call}
@@ -13,8 +13,8 @@ use Rattle.ir_text.specs.Mentions.{Mention, Mentioning}
 use Rattle.ir_text.specs.PassedOn.{passed_text}
 use Rattle.ir_grammar.specs.Operations.{dropped_word, SpellsOp}
 use Rattle.ir_parts.specs.declared.ending.Ending.{Ending}
-use Rattle.ir_parts.specs.Reading.{begins, choose}
-use Rattle.ir_parts.proofs.Readers.{IsReader, Begins, chosen, refused_there}
+use Rattle.ir_parts.specs.Reading.{begins}
+use Rattle.ir_parts.proofs.Readers.{Begins, chosen, refused_there}
 use Rattle.ir_body.specs.declared.operation.Operation.{Operation}
 use Rattle.ir_body.specs.Telling.{Telling, made}
 use Rattle.ir_body.specs.Opcodes.{begins_call}

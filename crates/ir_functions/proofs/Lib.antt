@@ -5,3 +5,5 @@ pub mod ArgumentTellers
 pub mod LineStarts
 pub mod LineFacts
 pub mod ChainTellers
+pub mod CalleeReaders
+pub mod HeadReaders

@@ -1,5 +1,5 @@
 -- The tokens with which lines begin: none of them goes on with what stands before it.
-use Rattle.std.proofs.Common.{◌≡◌, ℕ, Bool, true, false, ◌&&◌, ◌||◌, ◌==◌, List, [], ◌∷◌, ◌++◌, Option, Some, None, ◌⊎◌, inl, inr, refl, sym, ap, ◌∙◌, IsTrue, codes}
+use Rattle.std.proofs.Common.{◌≡◌, ℕ, Bool, true, false, ◌||◌, ◌==◌, List, [], ◌∷◌, ◌++◌, Option, Some, None, ◌⊎◌, inl, inr, refl, ap, ◌∙◌, IsTrue, codes}
 use Rattle.std.specs.Option.{is_some}
 use Rattle.std.proofs.lemmas.Bool.{and_parts, eqb-true}
 use Rattle.ir_model.specs.declared.op.BinOp.{BinOp}
@@ -9,8 +9,8 @@ use Rattle.ir_model.specs.declared.op.CastOp.TheVariants as cast
 use Rattle.ir_model.specs.declared.op.Op.{Op}
 use Rattle.ir_model.specs.declared.op.Op.TheVariants.{Binary, Icmp, Cast, Select, Phi, Freeze, Alloca, Load, Store, Gep, Call, Jump, Branch, Switch, Ret, Unreachable}
 use Rattle.ir_text.specs.declared.token.TokenKind.{TokenKind}
-use Rattle.ir_text.specs.declared.token.TokenKind.TheVariants.{Group, Local}
-use Rattle.ir_text.specs.Names.{is_word, is_signed_number}
+use Rattle.ir_text.specs.declared.token.TokenKind.TheVariants.{Group}
+use Rattle.ir_text.specs.Names.{is_word}
 use Rattle.ir_text.specs.Tokens.{Lexeme}
 use Rattle.ir_text.specs.Listed.{word}
 use Rattle.ir_text.specs.Written.{Name, IsLocal}
@@ -28,7 +28,7 @@ use Rattle.ir_parts.proofs.PieceReaders.{neither_or}
 use Rattle.ir_parts.proofs.RunReader.{belongs_to_none}
 use Rattle.ir_parts.proofs.MetadataReaders.{word_no_number}
 use Rattle.ir_body.specs.Opcodes.{begins_call}
-use Rattle.ir_body.proofs.SaidNames.{local_there, local_back}
+use Rattle.ir_parts.proofs.SaidNames.{local_there, local_back}
 use Rattle.ir_functions.specs.Silent.{is_record, is_record_text, is_group_kind}
 use Rattle.ir_functions.specs.Lines.{is_local}
 

@@ -1,5 +1,9 @@
 pub mod Readers
 pub mod Repeated
+pub mod MaybeReader
+pub mod ToEndReader
+pub mod UntilReader
+pub mod UpToReader
 pub mod Combined
 pub mod Together
 pub mod SingleTokens
