@@ -20,7 +20,8 @@ use Rattle.ir_parts.proofs.Readers.{StopsAt, Taken, Refused, IsReader, either, b
 use Rattle.ir_parts.proofs.PieceReaders.{neither_or, or_neither}
 use Rattle.ir_parts.proofs.TypeReaders.{scalar_types}
 use Rattle.ir_body.specs.Telling.{behind, ◌>>=◌, silently}
-use Rattle.ir_body.specs.Operands.{operand_of, operand_of_parts, word_operand}
+use Rattle.ir_parts.specs.Literals.{word_operand}
+use Rattle.ir_body.specs.Operands.{operand_of, operand_of_parts}
 use Rattle.ir_body.proofs.Tellers.{IsTeller, silent_tells, each_tells}
 use Rattle.ir_functions.specs.declared.arguments.Argument.{Argument}
 use Rattle.ir_functions.specs.Arguments.{is_outer, may_be_operand, inner_operand, argument_within, argument_behind_at, argument_at}

@@ -11,3 +11,5 @@ pub mod Regrouped
 pub mod LineSayings
 pub mod UntilTellers
 pub mod LinesTellers
+pub mod CalleeReaders
+pub mod HeadReaders

@@ -10,9 +10,10 @@ use Rattle.ir_parts.specs.Reading.{is_word_kind, is_punctuation}
 use Rattle.ir_parts.specs.TypeReading.{int_width_of}
 use Rattle.ir_parts.specs.WordsReading.{is_passed_text, is_passed, begins_piece}
 use Rattle.ir_parts.specs.Runs.{is_placing}
-use Rattle.ir_body.specs.Tables.{look_up}
-use Rattle.ir_body.specs.Operands.{word_operands, word_operand, told_word, operand_of_parts, operand_of}
-use Rattle.ir_body.proofs.WordReaders.{look_up_gives}
+use Rattle.ir_parts.specs.Literals.{word_operands, word_operand}
+use Rattle.ir_parts.specs.Tables.{look_up}
+use Rattle.ir_parts.proofs.LookedUp.{look_up_gives}
+use Rattle.ir_body.specs.Operands.{told_word, operand_of_parts, operand_of}
 use Rattle.ir_functions.specs.Arguments.{is_outer}
 
 -- ---- words

@@ -3,9 +3,9 @@ pub mod Repeated
 pub mod UntilReader
 pub mod UpToReader
 pub mod ToEndReader
+pub mod MaybeReader
 pub mod Combined
 pub mod Together
-pub mod MaybeReader
 pub mod SingleTokens
 pub mod Places
 pub mod Loops
