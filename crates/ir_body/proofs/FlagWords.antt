@@ -26,7 +26,7 @@ among_there (x ∷ xs) text e = elim (either (bytes_eq x text)) [
   | inr other ↦ contains_later x xs text (among_there xs text (sym (ap (λ (b : Bool). b || is_among xs text) other) ∙ e))
 ]
 
-or_true : (b : Bool) → (b || true) ≡ true
+pub or_true : (b : Bool) → (b || true) ≡ true
 or_true true = refl
 or_true false = refl
 

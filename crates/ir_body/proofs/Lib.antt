@@ -3,7 +3,6 @@ pub mod WordFirst
 pub mod SaidAt
 pub mod Choices
 pub mod Tellers
-pub mod SaidNames
 pub mod WordReaders
 pub mod OpcodeReaders
 pub mod OperandTellers
@@ -16,3 +15,8 @@ pub mod DroppedWords
 pub mod PlainTellers
 pub mod ValueTellers
 pub mod OperandAt
+pub mod GatheredTellers
+pub mod TypeFirst
+pub mod CaseTellers
+pub mod AlignedTellers
+pub mod ListTellers

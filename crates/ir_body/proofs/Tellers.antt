@@ -190,11 +190,12 @@ pub both : {X Y : Type 0} {a : Telling X} {b : Telling Y} {A : X → Mentioning}
     → IsTeller a A Anything → IsTeller b B StopB → IsTeller (a ⊗ b) (λ p. A p.0 ⊙ B p.1) (λ p. StopB p.1)
 both first next = both_told first next (λ x y ms taken rest l stops. stops_at_all (taken ++ rest) (λ t. tt))
 
--- the first value, with what says nothing behind it
-pub kept : {X : Type 0} {a : Telling X} {b : Telling (Unit {0})} {A : X → Mentioning} {B : Mentioning}
-    {StopB : Lexeme → Type 0}
-    → IsTeller a A Anything → IsTeller b (λ u. B) (λ u. StopB) → IsTeller (a ◁ b) (λ x. A x ⊙ B) (λ x. StopB)
-kept {X} {a} {b} {A} {B} {StopB} first next =
+-- the first value, with what says nothing behind it, which doesn't continue it
+pub kept_told : {X : Type 0} {a : Telling X} {b : Telling (Unit {0})} {A : X → Mentioning} {B : Mentioning}
+    {StopA : X → Lexeme → Type 0} {StopB : Lexeme → Type 0}
+    → IsTeller a A StopA → IsTeller b (λ u. B) (λ u. StopB) → Follows {Y = Unit {0}} StopA (λ x u. B) (λ u. StopB)
+    → IsTeller (a ◁ b) (λ x. A x ⊙ B) (λ x. StopB)
+kept_told {X} {a} {b} {A} {B} {StopA} {StopB} first next ends =
     told_as (λ x. A x ⊙ B)
     (λ x ms ts l. (
       l.1.0,
@@ -211,7 +212,13 @@ kept {X} {a} {b} {A} {B} {StopB} first next =
     (λ x ms ts l. (x, (l.0, l.1, l.2, (l.3.0, l.3.1, l.3.2, l.3.3, (tt, refl, l.3.4)))))
     (each_tells (λ x. b >>= λ u. give x) (λ x y ms ts. (u : Unit {0}) × (y ≡ x) × B ms ts) (λ x. StopB) first
     (λ x. made_tells (λ u. x) (λ x. StopB) (λ u t stop. stop) (λ u t stop. stop) next)
-    (λ x y ms taken rest l stops. stops_at_all (taken ++ rest) (λ t. tt)))
+    (λ x y ms taken rest l stops. ends x tt ms taken rest l.2 stops))
+
+-- the same where nothing continues the first
+pub kept : {X : Type 0} {a : Telling X} {b : Telling (Unit {0})} {A : X → Mentioning} {B : Mentioning}
+    {StopB : Lexeme → Type 0}
+    → IsTeller a A Anything → IsTeller b (λ u. B) (λ u. StopB) → IsTeller (a ◁ b) (λ x. A x ⊙ B) (λ x. StopB)
+kept first next = kept_told first next (λ x u ms taken rest l stops. stops_at_all (taken ++ rest) (λ t. tt))
 
 -- What is spelled is made of what was read.
 abbrev pub IsMade : {R Z : Type 0} → (R → Z) → (R → Mentioning) → Z → Mentioning

@@ -6,5 +6,9 @@ pub mod Flags
 pub mod Plain
 pub mod Values
 pub mod FlagWords
-pub mod Views
 pub mod Gathered
+pub mod Cases
+pub mod Aligned
+pub mod Lists
+pub mod Operation
+pub mod Views

@@ -1,0 +1,15 @@
+pub mod LastPieces
+pub mod OperandTokens
+pub mod ArgumentRuns
+pub mod ArgumentTellers
+pub mod LineStarts
+pub mod LineFacts
+pub mod ChainTellers
+pub mod LineTellers
+pub mod GivenValues
+pub mod Regrouped
+pub mod LineSayings
+pub mod UntilTellers
+pub mod LinesTellers
+pub mod CalleeReaders
+pub mod HeadReaders

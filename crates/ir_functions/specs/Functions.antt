@@ -21,7 +21,7 @@ use Rattle.ir_parts.specs.ListReading.{listed_at, all_up_to_at}
 use Rattle.ir_body.specs.declared.operation.Operation.{Operation}
 use Rattle.ir_body.specs.Telling.{Telling, silently, made, word_at, sign_at, ◌⊗◌, ◌▷◌}
 use Rattle.ir_body.specs.Gathered.{gathered}
-use Rattle.ir_functions.specs.Silent.{words_at}
+use Rattle.ir_parts.specs.WordsReading.{words_at}
 use Rattle.ir_functions.specs.Lines.{defined_at, is_local, lines_at, instrs_of}
 
 -- ---- blocks

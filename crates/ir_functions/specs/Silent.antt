@@ -8,13 +8,10 @@ use Rattle.ir_text.specs.PassedOn.{passed_text}
 use Rattle.ir_parts.specs.declared.ending.Run.{Run}
 use Rattle.ir_parts.specs.Reading.{Read, ◌⊗◌, ◌▷◌, made, token_at, keyword_at, taking}
 use Rattle.ir_parts.specs.TypeReading.{returned_type_at}
-use Rattle.ir_parts.specs.WordsReading.{run_at, parentheses_at}
+use Rattle.ir_parts.specs.WordsReading.{words_at, parentheses_at}
 use Rattle.ir_parts.specs.MetadataReading.{attachments_at}
 use Rattle.ir_body.specs.Flags.{flag_at}
 use Rattle.ir_functions.specs.declared.calls.CallHead.{CallHead}
-
-unfoldable pub words_at : Read (Run × List ℕ)
-words_at = made (λ p. (p.0, passed_text p.1)) (taking run_at)
 
 -- ---- before the callee
 

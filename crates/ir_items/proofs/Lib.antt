@@ -1,3 +1,11 @@
 pub mod FirstParts
 pub mod LeftOut
 pub mod LayoutFaults
+pub mod LiteralReader
+pub mod PlainInits
+pub mod PartReaders
+pub mod InitLevels
+pub mod Agreement
+pub mod Nested
+pub mod Bounded
+pub mod InitReader

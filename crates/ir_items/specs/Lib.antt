@@ -1,1 +1,3 @@
 pub mod LayoutScan
+pub mod LiteralReading
+pub mod InitReading

@@ -2,7 +2,9 @@
 //! dropped or passed on.
 #![tactic(auto)]
 
+mod initialiser;
 mod layout;
+mod literal;
 
 pub use ir_parts::{ItemFault, read_type, skip_metadata};
 pub use layout::layout_fault;

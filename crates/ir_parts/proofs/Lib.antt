@@ -3,9 +3,9 @@ pub mod Repeated
 pub mod UntilReader
 pub mod UpToReader
 pub mod ToEndReader
+pub mod MaybeReader
 pub mod Combined
 pub mod Together
-pub mod MaybeReader
 pub mod SingleTokens
 pub mod Places
 pub mod Loops
@@ -18,6 +18,8 @@ pub mod ListReaders
 pub mod Decided
 pub mod PartsReader
 pub mod ListLoops
+pub mod SaidNames
+pub mod LookedUp
 pub mod StringTexts
 pub mod PieceTokens
 pub mod Optional

@@ -8,3 +8,5 @@ pub mod TextReading
 pub mod MetadataReading
 pub mod ListReading
 pub mod Sentences
+pub mod Tables
+pub mod Literals
