@@ -17,3 +17,10 @@ pub mod MetadataReaders
 pub mod ListReaders
 pub mod Decided
 pub mod PartsReader
+pub mod StringTexts
+pub mod PieceTokens
+pub mod Optional
+pub mod PieceReaders
+pub mod PieceSayings
+pub mod RunReader
+pub mod TakingReader

@@ -88,7 +88,7 @@ bang_back t is = rw (is.0, is.1) refl
 -- ---- readers
 
 -- a token of a kind
-single : (test : Lexeme → Bool) (Is : Lexeme → Type 0) → ((t : Lexeme) → test t ≡ true → Is t) → ((t : Lexeme)
+pub single : (test : Lexeme → Bool) (Is : Lexeme → Type 0) → ((t : Lexeme) → test t ≡ true → Is t) → ((t : Lexeme)
     → Is t → test t ≡ true)
     → (t : Lexeme) → Is t → IsReader (token_at test) (λ (x : Unit {0}). one Is) Anything
 single test Is there back t is = of_language (λ (x : Unit {0}). one Is)
@@ -146,11 +146,11 @@ word_is_no_bang : (t : Lexeme) → IsMetadataWord t → is_bang t ≡ false
 word_is_no_bang t is = rw (is.0, is.2) (no_bang is.1 is.3)
 
 -- what begins with a token that passes, or fails, a test
-starts_with_one : (test : Lexeme → Bool) (Is : Lexeme → Type 0) (B : Language) → ((t : Lexeme) → Is t → test t ≡ true)
+pub starts_with_one : (test : Lexeme → Bool) (Is : Lexeme → Type 0) (B : Language) → ((t : Lexeme) → Is t → test t ≡ true)
     → (ts : List Lexeme) → (one Is · B) ts → begins test ts ≡ true
 starts_with_one test Is B back ts l = rw (l.2, l.3.1) (back l.3.0 l.3.2)
 
-starts_otherwise : (test : Lexeme → Bool) (Is : Lexeme → Type 0) (B : Language) → ((t : Lexeme) → Is t → test t ≡ false)
+pub starts_otherwise : (test : Lexeme → Bool) (Is : Lexeme → Type 0) (B : Language) → ((t : Lexeme) → Is t → test t ≡ false)
     → (taken rest : List Lexeme) → (one Is · B) taken → begins test (taken ++ rest) ≡ false
 starts_otherwise test Is B other taken rest l = rw (l.2, l.3.1) (other l.3.0 l.3.2)
 

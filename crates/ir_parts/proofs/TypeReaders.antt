@@ -50,7 +50,7 @@ length_some : (bs : List ℕ) → bs ≢ [] → ltb 0 (length bs) ≡ true
 length_some [] h = absurd (h refl)
 length_some (b ∷ bs) h = lt-ltb 0 (length (b ∷ bs)) (omega arith)
 
-int_text : (width : ℕ) (text : List ℕ) → int_width_of text ≡ Some width → IsIntText width text
+pub int_text : (width : ℕ) (text : List ℕ) → int_width_of text ≡ Some width → IsIntText width text
 unfolding int_width_of
 int_text width [] e = absurd cc
 int_text width (b ∷ bs) e =
@@ -61,7 +61,7 @@ int_text width (b ∷ bs) e =
     let value = is_below (2 ^ 32) (digits_value 10 bs) width parts.1 in
     (bs, ap (λ (b : ℕ). b ∷ bs) (eqb-true b 105 tests.0), some_length bs digits.0, digits.1, value.0, omega arith)
 
-int_text_width : (width : ℕ) (text : List ℕ) → IsIntText width text → int_width_of text ≡ Some width
+pub int_text_width : (width : ℕ) (text : List ℕ) → IsIntText width text → int_width_of text ≡ Some width
 unfolding int_width_of
 int_text_width width text is = rw is.1
     (where_true (ltb 0 (length is.0) && list_all is_digit is.0) (below (2 ^ 32) (digits_value 10 is.0))
@@ -85,7 +85,7 @@ int_reads = one_reads int_width IsIntType int_there int_back 1 (word (codes "i1"
 
 -- ---- dimensions
 
-numeral_kind : (kind : TokenKind) → is_numeral_kind kind ≡ true → kind ≡ Numeral
+pub numeral_kind : (kind : TokenKind) → is_numeral_kind kind ≡ true → kind ≡ Numeral
 numeral_kind Numeral e = refl
 numeral_kind _ e = absurd cc
 

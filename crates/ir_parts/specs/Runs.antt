@@ -1,8 +1,8 @@
 -- What a run of passed-on words says by its pieces, and which tokens go on with it.
-use Rattle.std.specs.Prelude.{◌≡◌, ℕ, Bool, true, false, ◌||◌, if◌then◌else◌, List, [], ◌∷◌, codes}
+use Rattle.std.specs.Prelude.{◌≡◌, ℕ, Bool, false, ◌||◌, if◌then◌else◌, List, [], ◌∷◌, codes}
 use Rattle.ir_text.specs.Tokens.{Lexeme}
 use Rattle.ir_text.specs.Language.{Language}
-use Rattle.ir_text.specs.PassedOn.{is_among, is_quoted, ArePieces, begins_external, is_external, passed_text}
+use Rattle.ir_text.specs.PassedOn.{is_among, is_quoted, ArePieces, begins_external, is_external}
 use Rattle.ir_parts.specs.declared.ending.Ending.{Ending}
 use Rattle.ir_parts.specs.declared.ending.Ending.TheVariants.{Empty, Word, Placing, Placed, Quoted, Closed}
 use Rattle.ir_parts.specs.declared.ending.Run.{Run}
