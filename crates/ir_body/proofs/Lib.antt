@@ -3,7 +3,6 @@ pub mod WordFirst
 pub mod SaidAt
 pub mod Choices
 pub mod Tellers
-pub mod SaidNames
 pub mod WordReaders
 pub mod OpcodeReaders
 pub mod OperandTellers

@@ -18,7 +18,8 @@ use Rattle.ir_text.specs.Sites.{bare_operand, operand_sites}
 use Rattle.ir_lex.specs.Tokenized.{Tokenized, lexemes}
 use Rattle.ir_parts.specs.Reading.{left_from, first_given}
 use Rattle.ir_parts.specs.Places.{said_at, mentions_at}
-use Rattle.ir_body.specs.Operands.{word_operand, told_register, told_global, told_word, operand_of_parts, operand_of}
+use Rattle.ir_parts.specs.Literals.{word_operand}
+use Rattle.ir_body.specs.Operands.{told_register, told_global, told_word, operand_of_parts, operand_of}
 use Rattle.ir_body.proofs.SaidAt.{said_first}
 
 -- an operand without its id, and what it mentions

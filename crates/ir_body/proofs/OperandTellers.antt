@@ -20,8 +20,9 @@ use Rattle.ir_grammar.specs.Operations.{SpellsOperand, SpellsTyped, SpellsPointe
 use Rattle.ir_parts.proofs.Readers.{Anything, of_language, one_reads}
 use Rattle.ir_parts.proofs.TypeReaders.{scalar_types}
 use Rattle.ir_body.specs.Tables.{look_up}
-use Rattle.ir_body.specs.Operands.{word_operands, word_operand, told_register, told_global, told_word, told_block, operand_of_parts, operand_of, operand_at, typed_at, pointer_at, block_name_at, target_at, two_at}
-use Rattle.ir_body.proofs.SaidNames.{local_there, local_back, global_there, global_back}
+use Rattle.ir_parts.specs.Literals.{word_operands, word_operand}
+use Rattle.ir_body.specs.Operands.{told_register, told_global, told_word, told_block, operand_of_parts, operand_of, operand_at, typed_at, pointer_at, block_name_at, target_at, two_at}
+use Rattle.ir_parts.proofs.SaidNames.{local_there, local_back, global_there, global_back}
 use Rattle.ir_body.proofs.WordReaders.{look_up_gives}
 use Rattle.ir_body.proofs.Tellers.{IsTeller, silent_tells, both, skip, made_whole, word_tells, sign_tells}
 

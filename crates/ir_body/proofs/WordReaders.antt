@@ -1,7 +1,5 @@
 -- Words that stand for something are read.
-use Rattle.std.proofs.Common.{◌≡◌, ℕ, Bool, if◌then◌else◌, List, [], ◌∷◌, Option, Some, None, inl, inr, refl, sym, ap, subst, ◌∙◌}
-use Rattle.std.specs.Str.{bytes_eq}
-use Rattle.std.proofs.lemmas.Slice.Eq.{bytes_eq-Decides}
+use Rattle.std.proofs.Common.{◌≡◌, ℕ, Bool, if◌then◌else◌, List, [], ◌∷◌, Option, Some, None, inl, inr, refl, sym, ap, ◌∙◌}
 use Rattle.scev_base.specs.declared.pred.Pred.{Pred}
 use Rattle.scev_base.specs.declared.pred.Pred.TheVariants as pred
 use Rattle.ir_text.specs.declared.token.TokenKind.TheVariants.{Word}
@@ -13,27 +11,8 @@ use Rattle.ir_parts.specs.Reading.{one_at, is_word_kind}
 use Rattle.ir_parts.proofs.Readers.{IsReader, Anything, either, of_language, one_reads}
 use Rattle.ir_parts.proofs.SingleTokens.{word_kind, same_token}
 use Rattle.ir_body.specs.Tables.{look_up}
+pub use Rattle.ir_parts.proofs.LookedUp.{Entries, look_up_gives}
 use Rattle.ir_body.specs.Opcodes.{predicates, predicate_of_text, predicate_of, predicate_at}
-
--- what holds of each entry of a table
-abbrev pub Entries : {A : Type 0} → (List ℕ → A → Type 0) → List (List ℕ × A) → Type 0
-Entries P [] = Unit {0}
-Entries P (entry ∷ more) = P entry.0 entry.1 × Entries P more
-
-pub look_up_gives : {A : Type 0} (P : List ℕ → A → Type 0) (table : List (List ℕ × A)) (text : List ℕ) (x : A)
-    → Entries P table → look_up table text ≡ Some x → P text x
-look_up_gives P [] text x each e = absurd cc
-look_up_gives {A} P (entry ∷ more) text x each e = elim (either (bytes_eq text entry.0)) [
-  | inl same ↦
-      let found : ◌≡◌ {A = Option A} (Some entry.1) (Some x) =
-      sym (ap (λ (b : Bool). if b then Some entry.1 else look_up more text) same) ∙ e in
-      let is : entry.1 ≡ x = cc in
-      subst (λ (text : List ℕ). P text x) (sym ((bytes_eq-Decides text entry.0).0 same))
-      (subst (λ (x : A). P entry.0 x) is each.0)
-  | inr other ↦
-      look_up_gives P more text x each.1 (sym
-      (ap (λ (b : Bool). if b then Some entry.1 else look_up more text) other) ∙ e)
-]
 
 -- Each word stands for one thing, where something holds of it.
 pub record Stands {A : Type 0} (of_text : List ℕ → Option A) (text_of : A → List ℕ) (Is : A → Type 0) : Type 0 where

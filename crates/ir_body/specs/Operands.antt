@@ -1,5 +1,5 @@
 -- Readings of operands and of what stands between them.
-use Rattle.std.specs.Prelude.{ℕ, List, [], ◌∷◌, pos, Option, Some, None, codes}
+use Rattle.std.specs.Prelude.{ℕ, List, [], ◌∷◌, Option, Some, None, codes}
 use Rattle.std.specs.Option.{option_map}
 use Rattle.std.specs.Str.Parse.{signed_digits_value}
 use Rattle.ir_model.specs.declared.op.Operand.{Operand}
@@ -13,22 +13,13 @@ use Rattle.ir_text.specs.Written.{Name}
 use Rattle.ir_text.specs.Said.{said_local, said_global}
 use Rattle.ir_text.specs.Mentions.{Mention}
 use Rattle.ir_text.specs.Mentions as mention
+use Rattle.ir_parts.specs.Literals.{word_operand}
 use Rattle.ir_parts.specs.TypeReading.{scalar_type_at}
 use Rattle.ir_parts.specs.Reading.{one_at}
 use Rattle.ir_body.specs.declared.operands.Two.{Two}
-use Rattle.ir_body.specs.Tables.{look_up}
 use Rattle.ir_body.specs.Telling.{Telling, ◌⊗◌, ◌▷◌, made, word_at, comma_at, silently}
 
 -- ---- operands
-
--- the operands that are words
-abbrev pub word_operands : List (List ℕ × Operand)
-word_operands = (codes "true", operand.Num (pos 1)) ∷ (codes "false", operand.Num (pos 0))
-    ∷ (codes "null", operand.Null)
-    ∷ (codes "undef", operand.Undef) ∷ (codes "poison", operand.Poison) ∷ []
-
-unfoldable pub word_operand : List ℕ → Option Operand
-word_operand text = look_up word_operands text
 
 -- with the mention in it
 abbrev pub told_register : Option Name → Option (Operand × List Mention)

@@ -5,7 +5,6 @@
 mod binary;
 mod branch;
 mod flags;
-mod names;
 mod opcode;
 mod operands;
 mod operation;

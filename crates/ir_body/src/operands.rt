@@ -2,20 +2,21 @@
 
 ghost use Rattle.std.specs.Prelude.{◌≡◌, ◌+◌, ◌^◌, ◌<◌, ◌≤◌, length, IfOk, IfErr, IfSome, IsTrue, Some, None, if◌then◌else◌};
 ghost use Rattle.std.specs.Option.{is_some, option_map};
-ghost use Rattle.std.specs.Str.Parse.{signed_digits_value};
 ghost use Rattle.ir_parts.specs.declared.fault.ItemFault.TheVariants.{OutOfMemory};
 ghost use Rattle.ir_text.specs.Said.{said_local, said_global};
 ghost use Rattle.ir_text.specs.declared.token.TokenKind.TheVariants.{Local, Global};
 ghost use Rattle.ir_text.specs.Sites.{operand_sites, typed_sites, bare_operand, bare_typed};
 ghost use Rattle.ir_parts.specs.Reading.{left_from, first_given, Reads, ReadsAs};
 ghost use Rattle.ir_parts.specs.Places.{mentions_at};
-ghost use Rattle.ir_body.specs.Operands.{operand_of, word_operand, operand_at, typed_at, pointer_at, block_name_at, target_at, two_at};
+ghost use Rattle.ir_body.specs.Operands.{operand_of, operand_at, typed_at, pointer_at, block_name_at, target_at, two_at};
 ghost use Rattle.ir_body.specs.Views.{bare_two, two_sites, bare_block_name, block_name_sites};
 
-use crate::names::{is_global, is_local, is_signed_number};
-use ir_lex::{TokenKind, Tokens, signed_value};
+use ir_lex::{TokenKind, Tokens};
 use ir_model::{IrType, Operand, TypedOperand};
-use ir_parts::{ItemFault, behind_keyword, behind_sign, next, read_scalar_type};
+use ir_parts::{
+    ItemFault, behind_keyword, behind_sign, is_global, is_local, next, numeral, read_scalar_type,
+    word_operand,
+};
 use scev_base::{BlockId, ValueId};
 
 /// An operand: a register, a global, a numeral, or one of `true`, `false`, `null`, `undef` and `poison`.
@@ -76,38 +77,6 @@ fn global(from: usize, text: &[u8]) -> Option<Operand>
 {
     if is_global(TokenKind::Global, text) {
         Some(Operand::Global(from as u64))
-    } else {
-        None
-    }
-}
-
-/// What a numeral writes, where it fits.
-fn numeral(text: &[u8]) -> Option<Operand>
-    ensures { IfSome result (λ value. value ≡ Operand.Num (signed_digits_value 10 text.now)) }
-{
-    if is_signed_number(text) {
-        let number = signed_value(text)?;
-        Some(Operand::Num(number))
-    } else {
-        None
-    }
-}
-
-/// The operand that a word is.
-#[tactic(auto, unfolding(crate::specs::Operands::word_operand))]
-fn word_operand(text: &[u8]) -> Option<Operand>
-    ensures { result ≡ word_operand text.now }
-{
-    if text == b"true".as_slice() {
-        Some(Operand::Num(1))
-    } else if text == b"false".as_slice() {
-        Some(Operand::Num(0))
-    } else if text == b"null".as_slice() {
-        Some(Operand::Null)
-    } else if text == b"undef".as_slice() {
-        Some(Operand::Undef)
-    } else if text == b"poison".as_slice() {
-        Some(Operand::Poison)
     } else {
         None
     }

@@ -1,0 +1,2 @@
+pub mod LiteralReading
+pub mod InitReading

@@ -2,4 +2,7 @@
 //! dropped or passed on.
 #![tactic(auto)]
 
+mod initialiser;
+mod literal;
+
 pub use ir_parts::{ItemFault, read_type, skip_metadata};

@@ -1,9 +1,8 @@
 //! Names as they are written.
 
-ghost use Rattle.std.specs.Prelude.{◌≡◌, ◌∷◌, ◌-◌, ◌<◌, [], IsTrue, IfOk, MatchOption, Some, None, if◌then◌else◌, length, take, drop};
+ghost use Rattle.std.specs.Prelude.{◌≡◌, IsTrue, IfOk, Some, None, if◌then◌else◌};
 ghost use Rattle.std.specs.Option.{option_map, option_copied};
 ghost use Rattle.std.specs.List.{list_all};
-ghost use Rattle.std.specs.Char.{digit_value};
 ghost use Rattle.ir_text.specs.Bytes.{is_no_quote, is_digit};
 ghost use Rattle.ir_text.specs.Names.{is_number};
 ghost use Rattle.ir_text.specs.Written.{unescaped};
@@ -12,11 +11,10 @@ ghost use Rattle.ir_names.specs.Keys.{name_of_key};
 ghost use Rattle.ir_names.specs.Meant.{meant, has_escape};
 
 use crate::key::Key;
-use ir_parts::{inner_text, is_number, is_string_text};
 use ir_lex::unsigned_value;
 use ir_model::Text;
+use ir_parts::{inner_text, is_number, is_string_text, unescape};
 use ir_text::is_word;
-use sqlite_items::Items;
 use std::alloc::{AllocError, Global};
 
 /// The name of a value or a block that is written; `known` is what its escapes mean.
@@ -88,58 +86,4 @@ fn has_escape(text: &[u8]) -> bool
     ensures { result ≡ has_escape text.now }
 {
     text.iter().any(|byte| *byte == b'\\')
-}
-
-fn unescape(alloc: Global, text: &[u8]) -> Result<Text, AllocError>
-    ensures { IfOk result (λ bytes. bytes ≡ unescaped text.now) }
-{
-    let mut bytes = Items::new(alloc);
-    let mut rest = text;
-    while let Some((byte, behind)) = first_meant(rest) {
-        bytes.push(byte)?;
-        rest = behind;
-    }
-    Ok(bytes)
-}
-
-// The first byte that is meant, and the text behind what means it.
-#[tactic(auto, unfolding(ir_text::specs::Written::unescaped))]
-fn first_meant(text: &[u8]) -> Option<(u8, &[u8])>
-    ensures { MatchOption result (text.now ≡ []) (λ first. (unescaped text.now ≡ first.0 ∷ unescaped first.1.now)
-        × (length first.1.now < length text.now)) }
-{
-    match text {
-        [] => None,
-        [first] => Some((*first, b"".as_slice())),
-        [first, second] => {
-            if *first == b'\\' && *second == b'\\' {
-                Some((b'\\', b"".as_slice()))
-            } else {
-                Some((*first, &text[1..]))
-            }
-        }
-        [first, second, third, behind @ ..] => {
-            if *first == b'\\' && *second == b'\\' {
-                Some((b'\\', &text[2..]))
-            } else if *first == b'\\' && second.is_ascii_hexdigit() && third.is_ascii_hexdigit() {
-                Some((16 * hex_value(*second) + hex_value(*third), behind))
-            } else {
-                Some((*first, &text[1..]))
-            }
-        }
-    }
-}
-
-fn hex_value(digit: u8) -> u8
-    requires { digit_value digit < 16 }
-    ensures value { result ≡ digit_value digit }
-    ensures small { result < 16 }
-{
-    if digit < b':' {
-        digit - b'0'
-    } else if digit < b'[' {
-        digit - 55
-    } else {
-        digit - 87
-    }
 }

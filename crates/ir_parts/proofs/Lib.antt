@@ -17,6 +17,8 @@ pub mod MetadataReaders
 pub mod ListReaders
 pub mod Decided
 pub mod PartsReader
+pub mod SaidNames
+pub mod LookedUp
 pub mod StringTexts
 pub mod PieceTokens
 pub mod Optional
@@ -24,3 +26,4 @@ pub mod PieceReaders
 pub mod PieceSayings
 pub mod RunReader
 pub mod TakingReader
+pub mod ListLoops

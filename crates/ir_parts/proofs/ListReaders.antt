@@ -29,8 +29,7 @@ separated L x (y ∷ ys) ts l =
     let part = behind.3 in
     let inner : List Lexeme = part.1 ++ behind.1 in
     let all : l.1 ≡ sign 44 ∷ inner =
-    behind.2 ∙ ap (λ (us : List Lexeme). us ++ behind.1) (part.2 ∙ ap (λ (us : List Lexeme). us ++ part.1) part.3) in
-    (
+    behind.2 ∙ ap (λ (us : List Lexeme). us ++ behind.1) (part.2 ∙ ap (λ (us : List Lexeme). us ++ part.1) part.3) in (
       l.0,
       inner,
       l.2 ∙ ap (λ (vs : List Lexeme). l.0 ++ vs) all,
@@ -43,8 +42,7 @@ in_sequence : {X : Type 0} (L : X → Language) (x : X) (xs : List X) (ts : List
     → SeparatedByCommas L (x ∷ xs) ts → (L x · InSequence (λ x. comma · L x) xs) ts
 in_sequence L x [] ts l = (ts, [], sym (append-nil ts), l, refl)
 in_sequence L x (y ∷ ys) ts l =
-    let others = in_sequence L y ys l.1 l.4 in
-    (
+    let others = in_sequence L y ys l.1 l.4 in (
       l.0,
       sign 44 ∷ l.1,
       l.2,
@@ -118,69 +116,69 @@ module _ {X : Type 0} {item : Read X} {L : X → Language} {Stop : X → Lexeme 
     (closing_stops : (x : X) (t : Lexeme) → is_punctuation closing t ≡ true → Stop x t)
     (closing_apart : is_punctuation 44 (sign closing) ≡ false)
     (never_closing : (x : X) (ts rest : List Lexeme) → L x ts → begins (is_punctuation closing) (ts ++ rest) ≡ false)
-    where
-  -- the closing sign alone
-  none_closed : IsReader (punctuation_at closing ▷ pure []) (λ (xs : List X) ts. (xs ≡ []) × punctuation closing ts)
-      Anything
-  none_closed = stands_for [] (sign_reads closing)
+  where
+    -- the closing sign alone
+    none_closed : IsReader (punctuation_at closing ▷ pure []) (λ (xs : List X) ts. (xs ≡ []) × punctuation closing ts)
+        Anything
+    none_closed = stands_for [] (sign_reads closing)
 
-  -- the closing sign stops the last thing
-  closing_stops_last : (xs : List X) → StopLast Stop xs (sign closing)
-  closing_stops_last [] = closing_apart
-  closing_stops_last (x ∷ []) = (closing_apart, closing_stops x (sign closing) (is_sign_itself closing))
-  closing_stops_last (x ∷ y ∷ xs) = closing_stops_last (y ∷ xs)
+    -- the closing sign stops the last thing
+    closing_stops_last : (xs : List X) → StopLast Stop xs (sign closing)
+    closing_stops_last [] = closing_apart
+    closing_stops_last (x ∷ []) = (closing_apart, closing_stops x (sign closing) (is_sign_itself closing))
+    closing_stops_last (x ∷ y ∷ xs) = closing_stops_last (y ∷ xs)
 
-  closed_there : (xs : List X) (taken rest : List Lexeme) → punctuation closing taken
-      → StopsAt (StopLast Stop xs) (taken ++ rest)
-  closed_there xs taken rest l =
-      subst (λ (ts : List Lexeme). StopsAt (StopLast Stop xs) (ts ++ rest)) (sym l) (closing_stops_last xs)
+    closed_there : (xs : List X) (taken rest : List Lexeme) → punctuation closing taken
+        → StopsAt (StopLast Stop xs) (taken ++ rest)
+    closed_there xs taken rest l =
+        subst (λ (ts : List Lexeme). StopsAt (StopLast Stop xs) (ts ++ rest)) (sym l) (closing_stops_last xs)
 
-  -- one thing or more, and the closing sign
-  some_closed : IsReader (with_commas_at item ◁ punctuation_at closing)
-      (λ xs. SeparatedByCommas L xs · punctuation closing) Anything
-  some_closed = before_stopping (with_commas_read item_reads comma_stops) (sign_reads closing) closed_there
+    -- one thing or more, and the closing sign
+    some_closed : IsReader (with_commas_at item ◁ punctuation_at closing)
+        (λ xs. SeparatedByCommas L xs · punctuation closing) Anything
+    some_closed = before_stopping (with_commas_read item_reads comma_stops) (sign_reads closing) closed_there
 
-  -- things never begin with the closing sign
-  never_first : (xs : List X) (taken rest : List Lexeme) → SeparatedByCommas L xs taken
-      → begins (is_punctuation closing) (taken ++ rest) ≡ false
-  never_first [] taken rest l = absurd l
-  never_first (x ∷ []) taken rest l = never_closing x taken rest l
-  never_first (x ∷ y ∷ ys) taken rest l =
-      ap (begins (is_punctuation closing))
-      (ap (λ (ts : List Lexeme). ts ++ rest) l.2 ∙ append_assoc l.0 (sign 44 ∷ l.1) rest)
-      ∙ never_closing x l.0 (sign 44 ∷ (l.1 ++ rest)) l.3
+    -- things never begin with the closing sign
+    never_first : (xs : List X) (taken rest : List Lexeme) → SeparatedByCommas L xs taken
+        → begins (is_punctuation closing) (taken ++ rest) ≡ false
+    never_first [] taken rest l = absurd l
+    never_first (x ∷ []) taken rest l = never_closing x taken rest l
+    never_first (x ∷ y ∷ ys) taken rest l =
+        ap (begins (is_punctuation closing))
+        (ap (λ (ts : List Lexeme). ts ++ rest) l.2 ∙ append_assoc l.0 (sign 44 ∷ l.1) rest)
+        ∙ never_closing x l.0 (sign 44 ∷ (l.1 ++ rest)) l.3
 
-  never_first_closed : (xs : List X) (taken rest : List Lexeme) → (SeparatedByCommas L xs · punctuation closing) taken
-      → begins (is_punctuation closing) (taken ++ rest) ≡ false
-  never_first_closed xs taken rest l =
-      ap (begins (is_punctuation closing))
-      (ap (λ (ts : List Lexeme). ts ++ rest) l.2 ∙ append_assoc l.0 l.1 rest)
-      ∙ never_first xs l.0 (l.1 ++ rest) l.3
+    never_first_closed : (xs : List X) (taken rest : List Lexeme) → (SeparatedByCommas L xs · punctuation closing) taken
+        → begins (is_punctuation closing) (taken ++ rest) ≡ false
+    never_first_closed xs taken rest l =
+        ap (begins (is_punctuation closing))
+        (ap (λ (ts : List Lexeme). ts ++ rest) l.2 ∙ append_assoc l.0 l.1 rest)
+        ∙ never_first xs l.0 (l.1 ++ rest) l.3
 
-  -- where there are none, it stands first
-  closed_first : (xs : List X) (ts : List Lexeme) → (xs ≡ []) × punctuation closing ts
-      → begins (is_punctuation closing) ts ≡ true
-  closed_first xs ts l = rw l.1 (is_sign_itself closing)
+    -- where there are none, it stands first
+    closed_first : (xs : List X) (ts : List Lexeme) → (xs ≡ []) × punctuation closing ts
+        → begins (is_punctuation closing) ts ≡ true
+    closed_first xs ts l = rw l.1 (is_sign_itself closing)
 
-  -- the two cases are one language
-  there : (xs : List X) (ts : List Lexeme)
-      → (((xs ≡ []) × punctuation closing ts) ⊎ (SeparatedByCommas L xs · punctuation closing) ts)
-      → (AnyWithCommas L xs · punctuation closing) ts
-  there xs ts (inl l) = rw l.0 ([], ts, refl, refl, l.1)
-  there [] ts (inr l) = absurd l.3
-  there (x ∷ xs) ts (inr l) = l
+    -- the two cases are one language
+    there : (xs : List X) (ts : List Lexeme)
+        → (((xs ≡ []) × punctuation closing ts) ⊎ (SeparatedByCommas L xs · punctuation closing) ts)
+        → (AnyWithCommas L xs · punctuation closing) ts
+    there xs ts (inl l) = rw l.0 ([], ts, refl, refl, l.1)
+    there [] ts (inr l) = absurd l.3
+    there (x ∷ xs) ts (inr l) = l
 
-  back : (xs : List X) (ts : List Lexeme) → (AnyWithCommas L xs · punctuation closing) ts
-      → (((xs ≡ []) × punctuation closing ts) ⊎ (SeparatedByCommas L xs · punctuation closing) ts)
-  back [] ts l =
-      inl (refl, l.2 ∙ ap (λ (us : List Lexeme). us ++ l.1) l.3 ∙ l.4)
-  back (x ∷ xs) ts l = inr l
+    back : (xs : List X) (ts : List Lexeme) → (AnyWithCommas L xs · punctuation closing) ts
+        → (((xs ≡ []) × punctuation closing ts) ⊎ (SeparatedByCommas L xs · punctuation closing) ts)
+    back [] ts l =
+        inl (refl, l.2 ∙ ap (λ (us : List Lexeme). us ++ l.1) l.3 ∙ l.4)
+    back (x ∷ xs) ts l = inr l
 
-  -- Any number of things with commas between them is read up to the closing sign, which nothing continues.
-  pub listed_reads : IsReader (listed_at item closing) (λ xs. AnyWithCommas L xs · punctuation closing) Anything
-  unfolding listed_at
-  listed_reads =
-      of_language (λ xs. AnyWithCommas L xs · punctuation closing) there back
-      (chosen (is_punctuation closing) none_closed some_closed closed_first
-      (λ xs taken rest l stops. never_first_closed xs taken rest l)
-      (λ t ts passed e. not_at_first (is_punctuation closing) (pure_reads []) t ts passed e))
+    -- Any number of things with commas between them is read up to the closing sign, which nothing continues.
+    pub listed_reads : IsReader (listed_at item closing) (λ xs. AnyWithCommas L xs · punctuation closing) Anything
+    unfolding listed_at
+    listed_reads =
+        of_language (λ xs. AnyWithCommas L xs · punctuation closing) there back
+        (chosen (is_punctuation closing) none_closed some_closed closed_first
+        (λ xs taken rest l stops. never_first_closed xs taken rest l)
+        (λ t ts passed e. not_at_first (is_punctuation closing) (pure_reads []) t ts passed e))

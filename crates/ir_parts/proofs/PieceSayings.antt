@@ -133,8 +133,7 @@ word_there : (run : Run) (ts : List Lexeme) → WordPiece run ts → Says ByWord
 word_there run ts (says, (us, vs, parts, (t, first, (is, said)), (ending, made, belongs))) =
     let all : ts ≡ t ∷ vs = parts ∙ ap (λ (us : List Lexeme). us ++ vs) first in
     let s : SaysSo t vs ending = word_says_so t vs (is_placing t.text) ending is refl
-    (subst (λ (says : Bool × Bool). BelongsToWord says.1 ending vs) said belongs) in
-    (
+    (subst (λ (says : Bool × Bool). BelongsToWord says.1 ending vs) said belongs) in (
       subst (λ (ts : List Lexeme). ByWord ts) (sym all) s.piece,
       made
           ∙ (ap (λ (says : Bool × Bool). run_of_word says ending) said
@@ -143,8 +142,7 @@ word_there run ts (says, (us, vs, parts, (t, first, (is, said)), (ending, made, 
 
 word_back : (run : Run) (ts : List Lexeme) → Says ByWord run ts → WordPiece run ts
 word_back run ts l =
-    let p = word_parts ts l.0 in
-    (
+    let p = word_parts ts l.0 in (
       word_says p.first.text,
       (
         p.first ∷ [],
@@ -172,15 +170,13 @@ group_says t ending is e = rw (e, is.0, is.2) refl
 plain_there : (run : Run) (ts : List Lexeme) → PlainPiece run ts → Says ByToken run ts
 plain_there run ts (ending, made, inl (us, vs, parts, (t, first, is), inl (closed, l))) =
     let all : ts ≡ t ∷ vs = parts ∙ ap (λ (us : List Lexeme). us ++ vs) first in
-    let so : ending ≡ ending_of_string vs = closed ∙ rw (l.2, l.3) refl in
-    (
+    let so : ending ≡ ending_of_string vs = closed ∙ rw (l.2, l.3) refl in (
       inr (inl (us, vs, parts, (t, first, is), l)),
       made ∙ (string_says t vs ending is so ∙ ap run_of_piece (sym all)),
     )
 plain_there run ts (ending, made, inl (us, vs, parts, (t, first, is), inr (quoted, none))) =
     let all : ts ≡ t ∷ vs = parts ∙ ap (λ (us : List Lexeme). us ++ vs) first in
-    let so : ending ≡ ending_of_string vs = quoted ∙ rw none refl in
-    (
+    let so : ending ≡ ending_of_string vs = quoted ∙ rw none refl in (
       inl (t, all ∙ ap (λ (vs : List Lexeme). t ∷ vs) none, is),
       made ∙ (string_says t vs ending is so ∙ ap run_of_piece (sym all)),
     )
@@ -195,8 +191,7 @@ plain_back run ts (inl (t, all, is), says) = (
 )
 plain_back run ts (inr (inl (us, vs, parts, (t, first, is), l)), says) =
     let all : ts ≡ t ∷ vs = parts ∙ ap (λ (us : List Lexeme). us ++ vs) first in
-    let so : Closed ≡ ending_of_string vs = rw (l.2, l.3) refl in
-    (
+    let so : Closed ≡ ending_of_string vs = rw (l.2, l.3) refl in (
       Closed,
       says ∙ (ap run_of_piece all ∙ sym (string_says t vs Closed is so)),
       inl (us, vs, parts, (t, first, is), inl (refl, l)),

@@ -7,3 +7,5 @@ pub mod Runs
 pub mod MetadataReading
 pub mod ListReading
 pub mod Sentences
+pub mod Tables
+pub mod Literals

@@ -4,9 +4,13 @@
 mod brackets;
 mod cursor;
 mod ending;
+mod escapes;
 mod fault;
 mod forms;
+mod global_names;
+mod literals;
 mod metadata;
+mod names;
 mod numbers;
 mod out_of_memory;
 mod passed_words;
@@ -17,10 +21,10 @@ mod types;
 
 pub use cursor::{behind_keyword, behind_sign, next, starts_keyword, starts_sign};
 pub use ending::{Ending, Run};
+pub use escapes::unescape;
 pub use fault::ItemFault;
 pub use forms::{inner_text, is_number, is_signed_number, is_string_text};
-pub use metadata::{skip_metadata, skip_pairs};
-pub use read_types::{
-    read_int_type, read_returned_type, read_scalar_type, read_stored_type, read_type,
-};
-pub use runs::run;
+pub use global_names::read_global_name;
+pub use literals::{numeral, word_operand};
+pub use metadata::{skip_metadata, skip_pairs, starts_part};
+pub use names::{is_global, is_local};

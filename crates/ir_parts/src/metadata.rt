@@ -4,6 +4,7 @@ ghost use Rattle.std.specs.Prelude.{◌≡◌, ◌+◌, ◌^◌, ◌<◌, ◌≤
 ghost use Rattle.ir_text.specs.PassedOn.{attachments, metadata_pairs};
 ghost use Rattle.ir_parts.specs.Sentences.{TellsPlace};
 ghost use Rattle.ir_parts.specs.Reading.{left_from, begins, token_at, Passes};
+ghost use Rattle.ir_parts.specs.ListReading.{begins_part};
 ghost use Rattle.ir_parts.specs.MetadataReading.{is_metadata, is_word_text, is_number_text, is_bang_text, is_metadata_word, is_metadata_number, is_bang, braces_at, braced_node_at, named_node_at, node_at, attached_at, attachment_at, attachments_at, pair_at, pairs_at};
 
 use crate::brackets::behind_brackets;
@@ -185,6 +186,14 @@ fn metadata(tokens: &Tokens<'_>, from: usize) -> Result<usize, ItemFault>
     } else {
         Err(ItemFault::CannotGoOn { at_token: from })
     }
+}
+
+/// Whether a thing stands next behind a comma: metadata behind a comma is an attachment.
+pub fn starts_part(tokens: &Tokens<'_>, from: usize) -> bool
+    ensures value { result ≡ begins_part (left_from tokens.now from) }
+    ensures within { IsTrue result → (from < length tokens.now.tokens) × (from + 1 < 2 ^ 64) }
+{
+    starts_sign(tokens, from, b',') && !starts_metadata(tokens, from + 1)
 }
 
 fn starts_word(tokens: &Tokens<'_>, from: usize) -> bool

@@ -30,7 +30,7 @@ framed (b ∷ r) long first last =
     ap (λ (b : ℕ). b ∷ r) opening
     ∙ ap (λ (r : List ℕ). 34 ∷ r) (sym (take-append-drop n r) ∙ ap (λ (end : List ℕ). take n r ++ end) closing)
 
-is_quoted_by : (text : List ℕ) → is_string_text text ≡ true → IsQuoted text (unescaped (inner_text text))
+pub is_quoted_by : (text : List ℕ) → is_string_text text ≡ true → IsQuoted text (unescaped (inner_text text))
 unfolding is_string_text
 is_quoted_by text e =
     let opens : Bool = bytes_eq (34 ∷ []) (take 1 text) in
@@ -74,7 +74,7 @@ string_of inner plain =
     ((bytes_eq-Decides (34 ∷ []) (drop (length text - 1) text)).1 (sym end))
     (ap (list_all is_no_quote) (inner_of inner) ∙ plain)
 
-quoted_is_string : (text bytes : List ℕ) → IsQuoted text bytes → (is_string_text text ≡ true)
+pub quoted_is_string : (text bytes : List ℕ) → IsQuoted text bytes → (is_string_text text ≡ true)
     × (unescaped (inner_text text) ≡ bytes)
 unfolding framed_text
 quoted_is_string text bytes l = (
@@ -183,7 +183,7 @@ global_is_said written name (inr (inr l)) =
 
 -- ---- behind a sigil
 
-sigil_first : (sigil : ℕ) (text : List ℕ) → bytes_eq (sigil ∷ []) (take 1 text) ≡ true → text ≡ sigil ∷ drop 1 text
+pub sigil_first : (sigil : ℕ) (text : List ℕ) → bytes_eq (sigil ∷ []) (take 1 text) ≡ true → text ≡ sigil ∷ drop 1 text
 sigil_first sigil [] e = absurd (let is : sigil ∷ [] ≡ [] = (bytes_eq-Decides (sigil ∷ []) []).0 e in cc)
 sigil_first sigil (b ∷ bs) e = let is : sigil ∷ [] ≡ b ∷ [] = (bytes_eq-Decides (sigil ∷ []) (b ∷ [])).0 e in cc
 
@@ -195,7 +195,7 @@ global_kind : (kind : TokenKind) → is_global_kind kind ≡ true → kind ≡ G
 global_kind Global e = refl
 global_kind _ e = absurd cc
 
-where_true : {A : Type 0} (b : Bool) (o : Option A) (x : A) → ◌≡◌ {A = Option A} (if b then o else None) (Some x)
+pub where_true : {A : Type 0} (b : Bool) (o : Option A) (x : A) → ◌≡◌ {A = Option A} (if b then o else None) (Some x)
     → (b ≡ true) × (o ≡ Some x)
 where_true true o x e = (refl, e)
 where_true false o x e = absurd cc

@@ -2,16 +2,15 @@
 
 ghost use Rattle.std.specs.Prelude.{◌≡◌, ◌∷◌, drop};
 ghost use Rattle.std.specs.Option.{is_some};
-ghost use Rattle.ir_text.specs.Names.{is_signed_number};
 ghost use Rattle.ir_text.specs.Said.{said, said_global_text, said_local, said_global};
 
+use crate::forms::{is_number, is_string_text};
 use ir_lex::TokenKind;
-use ir_parts::{is_number, is_string_text};
 use ir_text::is_word;
 
 /// Whether a token is `%name`.
 #[tactic(auto, unfolding(ir_text::specs::Said::said_local))]
-pub(crate) fn is_local(kind: TokenKind, text: &[u8]) -> bool
+pub fn is_local(kind: TokenKind, text: &[u8]) -> bool
     ensures { result ≡ is_some (said_local (record { kind = kind; text = text.now })) }
 {
     kind == TokenKind::Local && text.starts_with(b"%".as_slice()) && is_name(behind_first(text))
@@ -19,7 +18,7 @@ pub(crate) fn is_local(kind: TokenKind, text: &[u8]) -> bool
 
 /// Whether a token is `@name`.
 #[tactic(auto, unfolding(ir_text::specs::Said::said_global))]
-pub(crate) fn is_global(kind: TokenKind, text: &[u8]) -> bool
+pub fn is_global(kind: TokenKind, text: &[u8]) -> bool
     ensures { result ≡ is_some (said_global (record { kind = kind; text = text.now })) }
 {
     kind == TokenKind::Global
@@ -34,18 +33,8 @@ fn is_global_name(written: &[u8]) -> bool
     is_word(written) || is_number(written) || is_string_text(written)
 }
 
-/// Whether a text is digits, maybe behind a `-`.
-#[tactic(auto, unfolding(ir_text::specs::Names::is_signed_number))]
-pub(crate) fn is_signed_number(text: &[u8]) -> bool
-    ensures { result ≡ is_signed_number text.now }
-{
-    match text.split_first() {
-        None => false,
-        Some((first, rest)) => is_number(text) || (*first == b'-' && is_number(rest)),
-    }
-}
-
-fn behind_first(text: &[u8]) -> &[u8]
+/// The text without its first byte.
+pub(crate) fn behind_first(text: &[u8]) -> &[u8]
     ensures { result.now ≡ drop 1 text.now }
 {
     match text.split_first() {

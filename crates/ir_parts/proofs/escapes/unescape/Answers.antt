@@ -1,7 +1,7 @@
 use Rattle.std.proofs.Common.{◌++◌, List, ℕ, sym, ap, ◌∙◌}
 use Rattle.std.proofs.lemmas.List.{append-nil}
 use Rattle.ir_text.specs.Written.{unescaped}
-use Rattle.ir_names.proofs.written.unescape.Goals as goal
+use Rattle.ir_parts.proofs.escapes.unescape.Goals as goal
 
 pub returns : goal.returns
 unfolding unescaped
