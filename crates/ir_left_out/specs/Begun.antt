@@ -2,7 +2,6 @@
 use Rattle.std.specs.Prelude.{◌≡◌, ℕ, zero, suc, ◌+◌, Bool, true, false, ◌||◌, ◌&&◌, ◌==◌, if◌then◌else◌, List, [], ◌∷◌, ◌++◌, Option, Some, None, codes}
 use Rattle.std.specs.Option.{option_and_then}
 use Rattle.std.specs.Str.{bytes_eq}
-use Rattle.ir_model.specs.declared.types.IrType.{IrType}
 use Rattle.ir_text.specs.declared.token.TokenKind.{TokenKind}
 use Rattle.ir_text.specs.declared.token.TokenKind.TheVariants.{Word, Sign}
 use Rattle.ir_text.specs.Tokens.{Lexeme}
@@ -13,7 +12,7 @@ use Rattle.ir_text.specs.Types.{IsReturned, SpellsTypeOf}
 use Rattle.ir_text.specs.Written.{IsGlobal}
 use Rattle.ir_grammar.specs.Operations.{is_intrinsic}
 use Rattle.ir_grammar.specs.Spelled.{begun_call}
-use Rattle.ir_parts.specs.Reading.{Read, ◌>>=◌, keyword_at}
+use Rattle.ir_parts.specs.Reading.{Read, ◌>>=◌, pure, keyword_at}
 use Rattle.ir_parts.specs.TypeReading.{returned_type_at}
 use Rattle.ir_parts.specs.WordsReading.{run_at}
 
@@ -37,11 +36,12 @@ IsIntrinsicCallee before t = EndsCall before × ((name : List ℕ) × IsGlobal n
 
 -- ---- how it is read
 
-unfoldable pub begun_call_at : Read IrType
+unfoldable pub begun_call_at : Read (Unit {0})
 begun_call_at = do
   _ ← keyword_at (codes "call")
   _ ← run_at
-  returned_type_at
+  _ ← returned_type_at
+  pure tt
 
 -- ---- where it begins
 

@@ -1,6 +1,6 @@
 //! Where a call may begin that goes on up to a place.
 
-ghost use Rattle.std.specs.Prelude.{◌≡◌, ◌+◌, ◌^◌, ◌<◌, ◌≤◌, List, ◌∷◌, ◌++◌, Some, length, take, codes};
+ghost use Rattle.std.specs.Prelude.{◌≡◌, ◌+◌, ◌^◌, ◌<◌, ◌≤◌, List, ◌∷◌, ◌++◌, Some, IfSome, length, take, codes};
 ghost use Rattle.ir_text.specs.Tokens.{Lexeme};
 ghost use Rattle.ir_text.specs.declared.token.TokenKind.TheVariants.{Word};
 ghost use Rattle.ir_text.specs.Listed.{word};
@@ -37,7 +37,8 @@ pub(crate) fn last_call(tokens: &Tokens<'_>, end: usize) -> usize
 #[tactic(auto, unfolding(crate::specs::Begun::deeper))]
 fn deeper(kind: TokenKind, text: &[u8], depth: usize) -> Option<usize>
     requires { depth + 1 < 2 ^ 64 }
-    ensures { result ≡ deeper kind text.now depth }
+    ensures value { result ≡ deeper kind text.now depth }
+    ensures most { IfSome result (λ before. before ≤ depth + 1) }
 {
     match kind {
         TokenKind::Word => outside_call(text, depth),
@@ -48,7 +49,8 @@ fn deeper(kind: TokenKind, text: &[u8], depth: usize) -> Option<usize>
 
 #[tactic(auto, unfolding(crate::specs::Begun::deeper))]
 fn outside_call(text: &[u8], depth: usize) -> Option<usize>
-    ensures { result ≡ deeper Word text.now depth }
+    ensures value { result ≡ deeper Word text.now depth }
+    ensures most { IfSome result (λ before. before ≤ depth + 1) }
 {
     if depth == 0 && text == b"call".as_slice() {
         None
@@ -60,7 +62,8 @@ fn outside_call(text: &[u8], depth: usize) -> Option<usize>
 #[tactic(auto, unfolding(crate::specs::Begun::deeper_by_sign))]
 fn deeper_by_sign(byte: u8, depth: usize) -> Option<usize>
     requires { depth + 1 < 2 ^ 64 }
-    ensures { result ≡ deeper_by_sign byte depth }
+    ensures value { result ≡ deeper_by_sign byte depth }
+    ensures most { IfSome result (λ before. before ≤ depth + 1) }
 {
     match byte {
         b')' | b']' | b'}' => Some(depth + 1),
@@ -70,7 +73,8 @@ fn deeper_by_sign(byte: u8, depth: usize) -> Option<usize>
 }
 
 fn out_of(depth: usize) -> Option<usize>
-    ensures { result ≡ out_of depth }
+    ensures value { result ≡ out_of depth }
+    ensures most { IfSome result (λ before. before ≤ depth + 1) }
 {
     if depth == 0 { None } else { Some(depth - 1) }
 }

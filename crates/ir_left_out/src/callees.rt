@@ -2,12 +2,11 @@
 
 ghost use Rattle.std.specs.Prelude.{◌≡◌, ◌↔◌, ◌<◌, ◌≤◌, IsTrue, IfOk, length, take};
 ghost use Rattle.ir_lex.specs.Tokenized.{lexemes};
-ghost use Rattle.ir_parts.specs.Reading.{left_from, begins, Reads};
+ghost use Rattle.ir_parts.specs.Reading.{left_from, begins, Passes};
 ghost use Rattle.ir_left_out.specs.Begun.{is_intrinsic_token, EndsCall, begun_call_at};
 
 use crate::begun::last_call;
 use ir_lex::Tokens;
-use ir_model::IrType;
 use ir_parts::{ItemFault, behind_keyword, read_global_name, read_returned_type, run};
 use std::alloc::{AllocError, Global};
 
@@ -32,25 +31,22 @@ pub(crate) fn ends_call(alloc: Global, tokens: &Tokens<'_>, at: usize) -> Result
     requires { at ≤ length tokens.now.tokens }
     ensures { IfOk result (λ ends. IsTrue ends ↔ EndsCall (take at (lexemes tokens.now))) }
 {
-    match begun_call(alloc, tokens, last_call(tokens, at)) {
-        Ok((_, behind)) => Ok(behind == at),
+    match behind_begun(alloc, tokens, last_call(tokens, at)) {
+        Ok(behind) => Ok(behind == at),
         Err(ItemFault::CannotGoOn { .. }) => Ok(false),
         Err(ItemFault::OutOfMemory) => Err(AllocError),
     }
 }
 
-/// `call` with its passed-on words and its type.
+/// The place behind `call` with its passed-on words and its type.
 #[tactic(auto, unfolding(crate::specs::Begun::begun_call_at))]
-fn begun_call(
-    alloc: Global,
-    tokens: &Tokens<'_>,
-    from: usize,
-) -> Result<(IrType, usize), ItemFault>
+fn behind_begun(alloc: Global, tokens: &Tokens<'_>, from: usize) -> Result<usize, ItemFault>
     requires { from ≤ length tokens.now.tokens }
-    ensures value { Reads tokens.now result (begun_call_at (left_from tokens.now from)) }
-    ensures forth { IfOk result (λ read. (from < read.1) × (read.1 ≤ length tokens.now.tokens)) }
+    ensures value { Passes tokens.now result (begun_call_at (left_from tokens.now from)) }
+    ensures forth { IfOk result (λ at. (from < at) × (at ≤ length tokens.now.tokens)) }
 {
     let at = behind_keyword(tokens, from, b"call")?;
     let (_, at) = run(alloc, tokens, at)?;
-    read_returned_type(tokens, at)
+    let (_, at) = read_returned_type(tokens, at)?;
+    Ok(at)
 }

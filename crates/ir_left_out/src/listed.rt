@@ -1,6 +1,6 @@
 //! Words and signs that are left out.
 
-ghost use Rattle.std.specs.Prelude.{◌≡◌, ◌<◌, ◌≤◌, ◌≢◌, ℕ, ◌∷◌, [], codes, position, IfSome, MatchOption, Some, slice_get};
+ghost use Rattle.std.specs.Prelude.{◌≡◌, ◌+◌, ℕ, position, MatchOption, Some, None};
 ghost use Rattle.std.specs.Str.{bytes_eq};
 ghost use Rattle.ir_text.specs.PassedOn.{left_out_words};
 ghost use Rattle.ir_left_out.specs.Named.{NumbersToken, NumbersText, first_texts};
