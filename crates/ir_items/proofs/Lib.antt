@@ -6,3 +6,6 @@ pub mod Agreement
 pub mod Nested
 pub mod Bounded
 pub mod InitReader
+pub mod FirstParts
+pub mod LeftOut
+pub mod LayoutFaults

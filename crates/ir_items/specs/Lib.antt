@@ -1,2 +1,3 @@
 pub mod LiteralReading
 pub mod InitReading
+pub mod LayoutScan

@@ -4,5 +4,7 @@
 
 mod initialiser;
 mod literal;
+mod layout;
 
 pub use ir_parts::{ItemFault, read_type, skip_metadata};
+pub use layout::layout_fault;

@@ -19,6 +19,7 @@ pub mod Decided
 pub mod PartsReader
 pub mod SaidNames
 pub mod LookedUp
+pub mod ListLoops
 pub mod StringTexts
 pub mod PieceTokens
 pub mod Optional
@@ -26,4 +27,6 @@ pub mod PieceReaders
 pub mod PieceSayings
 pub mod RunReader
 pub mod TakingReader
-pub mod ListLoops
+pub mod Between
+pub mod WordsReader
+pub mod RunEnds

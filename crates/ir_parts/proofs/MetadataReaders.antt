@@ -170,7 +170,7 @@ neither true d e p q = absurd cc
 neither false true e p q = absurd cc
 neither false false e p q = refl
 
-word_no_number : (name : List ℕ) → IsTrue (is_word name) → is_signed_number name ≡ false
+pub word_no_number : (name : List ℕ) → IsTrue (is_word name) → is_signed_number name ≡ false
 unfolding is_word is_signed_number
 word_no_number [] e = refl
 word_no_number (b ∷ bs) e =

@@ -1,13 +1,13 @@
 -- A call that does what a reader does tells of sentences.
-use Rattle.std.proofs.Common.{◌≡◌, ℕ, zero, suc, ◌-◌, ◌≤◌, List, [], ◌∷◌, ◌++◌, length, drop, Result, Ok, Err, refl, sym, ap, ◌∙◌, arith}
+use Rattle.std.proofs.Common.{◌≡◌, ℕ, zero, suc, ◌-◌, ◌≤◌, List, [], ◌∷◌, ◌++◌, length, drop, Result, Ok, Err, refl, sym, ap, subst, ◌∙◌, arith}
 use Rattle.std.proofs.lemmas.List.{append-nil, length-append}
 use Rattle.ir_text.specs.Tokens.{Lexeme}
 use Rattle.ir_lex.specs.Tokenized.{Tokenized, lexemes}
 use Rattle.ir_parts.specs.declared.fault.ItemFault.{ItemFault}
 use Rattle.ir_parts.specs.declared.fault.ItemFault.TheVariants.{CannotGoOn, OutOfMemory}
-use Rattle.ir_parts.specs.Reading.{Read, left_from, Reads, Passes}
-use Rattle.ir_parts.specs.Sentences.{IsSentence, IsBroken, Tells, TellsPlace}
-use Rattle.ir_parts.proofs.Readers.{IsReader, goes_no_further, refused_there, same_parts}
+use Rattle.ir_parts.specs.Reading.{Read, go_on, pure, made, left_from, Reads, Passes}
+use Rattle.ir_parts.specs.Sentences.{Begins, IsSentence, IsBroken, Tells, TellsPlace}
+use Rattle.ir_parts.proofs.Readers.{IsReader, goes_no_further, refused_there, same_parts, both_read, same_read}
 use Rattle.ir_parts.proofs.Places.{length_left}
 
 -- ---- the tokens from one place to another
@@ -81,3 +81,64 @@ module _ {read : Read (Unit {0})} {L : List Lexeme → Type 0} {Stop : Unit {0} 
   tells_place t from within (Ok at) e = is_sentence r t from at tt e
   tells_place t from within (Err (CannotGoOn at)) e = is_broken r t from at within e.1 e.0
   tells_place t from within (Err OutOfMemory) e = tt
+
+-- ---- a view of what a richer reading gives
+
+seen_read : {R X : Type 0} (view : R → X) (r : Result (R × List Lexeme) ℕ) (x : X) (rest : List Lexeme)
+    → go_on r (λ rich. pure (view rich)) ≡ Ok (x, rest) → (rich : R) × (view rich ≡ x) × (r ≡ Ok (rich, rest))
+seen_read {R} {X} view r x rest e =
+    let b = both_read r (λ rich. pure (view rich)) (x, rest) e in
+    let same = same_read (view b.value, b.middle) (x, rest) b.second in (
+      b.value,
+      ap (λ (p : X × List Lexeme). p.0) same,
+      b.first ∙ ap (λ (p : X × List Lexeme). Ok (b.value, p.1)) same,
+    )
+
+seen_refused : {R X : Type 0} (view : R → X) (r : Result (R × List Lexeme) ℕ) (left : ℕ)
+    → go_on r (λ rich. pure (view rich)) ≡ Err left → r ≡ Err left
+seen_refused view (Ok read) left e = absurd cc
+seen_refused view (Err least) left e = cc
+
+-- A language that forgets some of what another says.
+module _ {R X : Type 0} (view : R → X) {Rich : R → List Lexeme → Type 0} (L : X → List Lexeme → Type 0)
+    (there : (x : X) (ts : List Lexeme) → (rich : R) × (view rich ≡ x) × Rich rich ts → L x ts)
+    (back : (x : X) (ts : List Lexeme) → L x ts → (rich : R) × (view rich ≡ x) × Rich rich ts) where
+  begins_rich : (ts : List Lexeme) → Begins L ts → Begins Rich ts
+  begins_rich ts begun =
+      let rich = back begun.whole (ts ++ begun.others) begun.sentence in
+      record { whole = rich.0; others = begun.others; sentence = rich.2 }
+
+  pub sentence_seen : (t : Tokenized) (from after : ℕ) (rich : R) → IsSentence Rich t from after rich
+      → IsSentence L t from after (view rich)
+  sentence_seen t from after rich s = record {
+    taken = s.taken;
+    parts = s.parts;
+    spelled = there (view rich) s.taken (rich, refl, s.spelled);
+    no_longer = λ next behind is begun. s.no_longer next behind is (begins_rich (s.taken ++ next ∷ []) begun);
+  }
+
+  pub broken_seen : (t : Tokenized) (from at : ℕ) → IsBroken Rich t from at → IsBroken L t from at
+  broken_seen t from at b = record {
+    taken = b.taken;
+    parts = b.parts;
+    begun = record {
+      whole = view b.begun.whole;
+      others = b.begun.others;
+      sentence = there (view b.begun.whole) (b.taken ++ b.begun.others) (b.begun.whole, refl, b.begun.sentence);
+    };
+    no_sentence = λ x l. let rich = back x b.taken l in b.no_sentence rich.0 rich.2;
+    no_longer = λ next behind is begun. b.no_longer next behind is (begins_rich (b.taken ++ next ∷ []) begun);
+  }
+
+  -- A call that gives a view of what a reading gives tells of the language that says that view alone.
+  pub tells_view : {read : Read R} {Stop : R → Lexeme → Type 0} → IsReader read Rich Stop
+      → (t : Tokenized) (from : ℕ) → from ≤ length t.tokens → (result : Result (X × ℕ) ItemFault)
+      → Reads t result (made view read (left_from t from)) → Tells L t from result
+  tells_view {read} r t from within (Ok found) e =
+      let seen = seen_read view (read (left_from t from)) found.0 (left_from t found.1) e in
+      subst (λ (x : X). IsSentence L t from found.1 x) seen.1
+      (sentence_seen t from found.1 seen.0 (is_sentence r t from found.1 seen.0 seen.2))
+  tells_view {read} r t from within (Err (CannotGoOn at)) e =
+      broken_seen t from at
+      (is_broken r t from at within e.1 (seen_refused view (read (left_from t from)) (length t.tokens - at) e.0))
+  tells_view r t from within (Err OutOfMemory) e = tt

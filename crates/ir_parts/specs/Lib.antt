@@ -4,6 +4,7 @@ pub mod TypeReading
 pub mod BracketsReading
 pub mod WordsReading
 pub mod Runs
+pub mod TextReading
 pub mod MetadataReading
 pub mod ListReading
 pub mod Sentences

@@ -1,8 +1,8 @@
 -- What a run of passed-on words says by its pieces, and which tokens go on with it.
-use Rattle.std.specs.Prelude.{◌≡◌, ℕ, Bool, false, ◌||◌, if◌then◌else◌, List, [], ◌∷◌, codes}
+use Rattle.std.specs.Prelude.{◌≡◌, ℕ, Bool, false, ◌||◌, ◌&&◌, not, if◌then◌else◌, List, [], ◌∷◌, codes}
 use Rattle.ir_text.specs.Tokens.{Lexeme}
 use Rattle.ir_text.specs.Language.{Language}
-use Rattle.ir_text.specs.PassedOn.{is_among, is_quoted, ArePieces, begins_external, is_external}
+use Rattle.ir_text.specs.PassedOn.{is_among, is_quoted, ArePieces, begins_external, is_external, passed_text}
 use Rattle.ir_parts.specs.declared.ending.Ending.{Ending}
 use Rattle.ir_parts.specs.declared.ending.Ending.TheVariants.{Empty, Word, Placing, Placed, Quoted, Closed}
 use Rattle.ir_parts.specs.declared.ending.Run.{Run}
@@ -56,8 +56,17 @@ belongs_to _ t = false
 abbrev pub goes_on : Ending → Lexeme → Bool
 goes_on ending t = begins_piece t || belongs_to ending t
 
+-- whether a token goes on with no run, however the run ends
+abbrev pub ends_run : Lexeme → Bool
+ends_run t = not (begins_piece t) && not (is_punctuation 40 t) && not (is_numeral t) && not (is_punctuation 61 t)
+
 -- ---- the language
 
 -- a run of passed-on words, and what it says
 abbrev pub SpellsRun : Run → Language
 SpellsRun run ts = (pieces : List (List Lexeme)) × ArePieces pieces ts × (run ≡ run_of pieces)
+
+-- the same with the text that it is passed on as
+abbrev pub SpellsRunText : Run × List ℕ → Language
+SpellsRunText said ts = (pieces : List (List Lexeme)) × ArePieces pieces ts × (said.0 ≡ run_of pieces)
+    × (said.1 ≡ passed_text ts)

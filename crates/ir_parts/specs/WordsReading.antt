@@ -7,11 +7,11 @@ use Rattle.ir_text.specs.declared.token.TokenKind.TheVariants.{Group}
 use Rattle.ir_text.specs.Names.{is_signed_number}
 use Rattle.ir_text.specs.Said.{is_string_text}
 use Rattle.ir_text.specs.Tokens.{Lexeme}
-use Rattle.ir_text.specs.PassedOn.{opening_words, left_out_words, is_among, is_quoted}
+use Rattle.ir_text.specs.PassedOn.{opening_words, left_out_words, is_among, is_quoted, passed_text}
 use Rattle.ir_parts.specs.declared.ending.Ending.{Ending}
 use Rattle.ir_parts.specs.declared.ending.Ending.TheVariants.{Empty, Word, Placing, Placed, Quoted, Closed}
 use Rattle.ir_parts.specs.declared.ending.Run.{Run}
-use Rattle.ir_parts.specs.Reading.{Read, ◌>>=◌, pure, one_at, token_at, is_word_kind, is_punctuation, punctuation_at, choose, repeated_at}
+use Rattle.ir_parts.specs.Reading.{Read, ◌>>=◌, pure, made, taking, one_at, token_at, is_word_kind, is_punctuation, punctuation_at, choose, repeated_at}
 use Rattle.ir_parts.specs.TypeReading.{int_width_of, is_numeral_kind}
 use Rattle.ir_parts.specs.BracketsReading.{closed_at}
 
@@ -151,3 +151,14 @@ unfoldable pub run_at : Read Run
 run_at = do
   pieces ← pieces_at
   pure (of_pieces pieces)
+
+-- ---- runs with their texts
+
+unfoldable pub words_at : Read (Run × List ℕ)
+words_at = made (λ p. (p.0, passed_text p.1)) (taking run_at)
+
+-- the text alone
+unfoldable pub words_text_at : Read (List ℕ)
+words_text_at = do
+  said ← words_at
+  pure said.1

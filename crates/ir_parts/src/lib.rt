@@ -13,6 +13,7 @@ mod metadata;
 mod names;
 mod numbers;
 mod out_of_memory;
+mod passed_text;
 mod passed_words;
 mod pieces;
 mod read_types;
@@ -29,7 +30,9 @@ pub use literals::{numeral, word_operand};
 pub use metadata::{skip_metadata, skip_pairs, starts_part};
 pub use names::{is_global, is_local};
 pub use passed_words::{left_out_place, place_among};
+pub use numbers::{are_digits, small_number};
+pub use passed_text::text_between;
 pub use read_types::{
     read_int_type, read_returned_type, read_scalar_type, read_stored_type, read_type,
 };
-pub use runs::run;
+pub use runs::{read_words, run, words};

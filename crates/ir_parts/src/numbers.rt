@@ -14,7 +14,7 @@ const LIMIT: u128 = 1 << 64;
 
 /// The number that the digits write, where it is below 2^64. A byte that is no digit counts 36, or from 10
 /// to 35 as a letter does: so the definition has it, and no numeral has one.
-pub(crate) fn small_number(digits: &[u8]) -> Option<u64>
+pub fn small_number(digits: &[u8]) -> Option<u64>
     ensures { result ≡ below (2 ^ 64) (digits_value 10 digits.now) }
 {
     let mut size: u128 = 0;
@@ -37,7 +37,7 @@ fn digit(byte: u8) -> u128
 }
 
 /// Whether all bytes are decimal digits.
-pub(crate) fn are_digits(bytes: &[u8]) -> bool
+pub fn are_digits(bytes: &[u8]) -> bool
     ensures { result ≡ list_all is_digit bytes.now }
 {
     bytes.iter().all(|byte| is_digit(*byte))
