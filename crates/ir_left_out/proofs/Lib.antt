@@ -1,0 +1,4 @@
+pub mod RunDepth
+pub mod CallPlace
+pub mod CallFound
+pub mod ListedTexts

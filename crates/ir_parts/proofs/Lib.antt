@@ -17,9 +17,9 @@ pub mod MetadataReaders
 pub mod ListReaders
 pub mod Decided
 pub mod PartsReader
-pub mod ListLoops
 pub mod SaidNames
 pub mod LookedUp
+pub mod ListLoops
 pub mod StringTexts
 pub mod PieceTokens
 pub mod Optional

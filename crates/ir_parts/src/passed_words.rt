@@ -1,6 +1,7 @@
 //! Which words are passed on.
 
-ghost use Rattle.std.specs.Prelude.{◌≡◌, map};
+ghost use Rattle.std.specs.Prelude.{◌≡◌, map, position};
+ghost use Rattle.std.specs.Str.{bytes_eq};
 ghost use Rattle.ir_text.specs.PassedOn.{opening_words, left_out_words, is_among};
 ghost use Rattle.ir_parts.specs.WordsReading.{is_passed_text, word_says};
 
@@ -104,6 +105,20 @@ const LEFT_OUT_WORDS: [&[u8]; 54] = [
     b"blockaddress",
     b"getelementptr",
 ];
+
+/// The place of a word among those of LLVM IR that are left out, from 0; None of every other word.
+pub fn left_out_place(text: &[u8]) -> Option<usize>
+    ensures { result ≡ position (λ each. bytes_eq each text.now) left_out_words }
+{
+    place_among(&LEFT_OUT_WORDS, text)
+}
+
+/// The first place of a text among these, from 0; None where it is none of them.
+pub fn place_among(texts: &[&[u8]], text: &[u8]) -> Option<usize>
+    ensures { result ≡ position (λ each. bytes_eq each text.now) (map (λ each. each.now) texts.now) }
+{
+    texts.iter().position(|each| *each == text)
+}
 
 /// Whether a word is passed on: it is no type, isn't left out, and begins nothing else.
 #[tactic(auto, unfolding(crate::specs::WordsReading::is_passed_text))]

@@ -1,0 +1,52 @@
+//! Words and signs that are left out.
+
+ghost use Rattle.std.specs.Prelude.{◌≡◌, ◌+◌, ℕ, position, MatchOption, Some, None};
+ghost use Rattle.std.specs.Str.{bytes_eq};
+ghost use Rattle.ir_text.specs.PassedOn.{left_out_words};
+ghost use Rattle.ir_left_out.specs.Named.{NumbersToken, NumbersText, first_texts};
+
+use ir_lex::TokenKind;
+use ir_parts::{left_out_place, place_among};
+
+/// The first of the list. The last three of them are no tokens: two are specifications of data layouts, and one begins
+/// names.
+const FIRST_TEXTS: [&[u8]; 4] = [b"ptr", b"{", b"<", b"..."];
+
+/// The number of a word or a sign of the list.
+pub(crate) fn number_of(kind: TokenKind, text: &[u8]) -> Option<u16>
+    ensures { NumbersToken (record { kind = kind; text = text.now }) result }
+{
+    match kind {
+        TokenKind::Word | TokenKind::Sign(_) | TokenKind::Dots => number_of_text(text),
+        _ => None,
+    }
+}
+
+fn number_of_text(text: &[u8]) -> Option<u16>
+    ensures { NumbersText text.now result }
+{
+    match first_place(text) {
+        Some(place) => Some(place),
+        None => word_number(text),
+    }
+}
+
+fn first_place(text: &[u8]) -> Option<u16>
+    ensures { result ≡ position (λ each. bytes_eq each text.now) first_texts }
+{
+    match place_among(&FIRST_TEXTS, text) {
+        Some(place) => Some(place as u16),
+        None => None,
+    }
+}
+
+fn word_number(text: &[u8]) -> Option<u16>
+    ensures { MatchOption result (position (λ each. bytes_eq each text.now) left_out_words ≡ None)
+        (λ number. (place : ℕ) × (position (λ each. bytes_eq each text.now) left_out_words ≡ Some place)
+        × (number ≡ 7 + place)) }
+{
+    match left_out_place(text) {
+        Some(place) => Some(7 + place as u16),
+        None => None,
+    }
+}
