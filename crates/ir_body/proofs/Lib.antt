@@ -21,3 +21,4 @@ pub mod TypeFirst
 pub mod CaseTellers
 pub mod AlignedTellers
 pub mod ListTellers
+pub mod OpTellers
