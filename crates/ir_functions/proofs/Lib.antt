@@ -7,3 +7,4 @@ pub mod LineFacts
 pub mod ChainTellers
 pub mod CalleeReaders
 pub mod HeadReaders
+pub mod ArgumentLists
