@@ -3,6 +3,10 @@ pub mod PlainInits
 pub mod PartReaders
 pub mod InitLevels
 pub mod Agreement
-pub mod Nested
 pub mod Bounded
+pub mod Nested
 pub mod InitReader
+pub mod ChosenUntil
+pub mod RunEnds
+pub mod TailReaders
+pub mod TailReader

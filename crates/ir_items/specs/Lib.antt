@@ -1,2 +1,4 @@
 pub mod LiteralReading
 pub mod InitReading
+pub mod TailReading
+pub mod GlobalReading

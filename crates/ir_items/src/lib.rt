@@ -2,7 +2,9 @@
 //! dropped or passed on.
 #![tactic(auto)]
 
+mod global_ending;
 mod initialiser;
 mod literal;
 
+pub use global_ending::GlobalEnding;
 pub use ir_parts::{ItemFault, read_type, skip_metadata};
