@@ -10,3 +10,4 @@ pub mod ChosenUntil
 pub mod RunEnds
 pub mod TailReaders
 pub mod TailReader
+pub mod GlobalReaders
