@@ -74,3 +74,10 @@ pub repeated_agree : {X : Type 0} (most : ℕ) (test : Lexeme → Bool) (item ot
     → Agree most item other → Agree most (repeated_at test item) (repeated_at test other)
 repeated_agree most test item other shrinks same ts short =
     repeat_agree most test item other shrinks same (length ts) ts short
+
+pub other_agree : {X : Type 0} (most : ℕ) (test : Lexeme → Bool) (there a b : Read X) → Agree most a b
+    → Agree most (choose test there a) (choose test there b)
+other_agree most test there a b other ts short = elim (either (begins test ts)) [
+  | inl passed ↦ chosen_first test there a ts passed ∙ sym (chosen_first test there b ts passed)
+  | inr failed ↦ chosen_other test there a ts failed ∙ (other ts short ∙ sym (chosen_other test there b ts failed))
+]

@@ -6,6 +6,11 @@ pub mod PlainInits
 pub mod PartReaders
 pub mod InitLevels
 pub mod Agreement
-pub mod Nested
 pub mod Bounded
+pub mod Nested
 pub mod InitReader
+pub mod ChosenUntil
+pub mod RunEnds
+pub mod TailReaders
+pub mod TailReader
+pub mod GlobalReaders

@@ -1,3 +1,5 @@
 pub mod LayoutScan
 pub mod LiteralReading
 pub mod InitReading
+pub mod TailReading
+pub mod GlobalReading

@@ -2,9 +2,11 @@
 //! dropped or passed on.
 #![tactic(auto)]
 
+mod global_ending;
 mod initialiser;
 mod layout;
 mod literal;
 
+pub use global_ending::GlobalEnding;
 pub use ir_parts::{ItemFault, read_type, skip_metadata};
 pub use layout::layout_fault;

@@ -16,7 +16,7 @@ use Rattle.ir_text.specs.Language.Many.{none, more}
 use Rattle.ir_text.specs.PassedOn.{IsMetadataWord, IsMetadataNumber, IsBang, in_parentheses, in_braces, metadata_node, attachments, metadata_pairs}
 use Rattle.ir_parts.specs.Reading.{token_at, begins, is_punctuation}
 use Rattle.ir_parts.specs.WordsReading.{parentheses_at}
-use Rattle.ir_parts.specs.MetadataReading.{is_metadata_kind, is_metadata, is_word_text, is_number_text, is_bang_text, is_metadata_word, is_metadata_number, is_bang, braces_at, braced_node_at, named_node_at, node_at, attached_at, attachment_at, attachments_at, pair_at, pairs_at}
+use Rattle.ir_parts.specs.MetadataReading.{is_metadata_kind, is_metadata, is_word_text, is_number_text, is_bang_text, is_metadata_word, is_metadata_number, is_bang, braces_at, braced_node_at, named_node_at, node_at, attached_at, bare_attachment_at, attachment_at, attachments_at, pair_at, pairs_at}
 use Rattle.ir_parts.proofs.Readers.{IsReader, Anything, of_language, mapped, chosen}
 use Rattle.ir_parts.proofs.Repeated.{Behind, repeated}
 use Rattle.ir_parts.proofs.Combined.{token_reads, behind_token, not_at_first}
@@ -58,13 +58,13 @@ bang_text [] e = absurd cc
 bang_text (b ∷ []) e = ap (λ (b : ℕ). b ∷ []) (eqb-true b 33 e)
 bang_text (b ∷ c ∷ bs) e = absurd cc
 
-word_there : (t : Lexeme) → is_metadata_word t ≡ true → IsMetadataWord t
+pub word_there : (t : Lexeme) → is_metadata_word t ≡ true → IsMetadataWord t
 word_there t e =
     let parts = and_parts (is_metadata t) (is_word_text t.text) e in
     let name = word_text t.text parts.1 in
     (metadata_kind t.kind parts.0, name.0, name.1, name.2)
 
-word_back : (t : Lexeme) → IsMetadataWord t → is_metadata_word t ≡ true
+pub word_back : (t : Lexeme) → IsMetadataWord t → is_metadata_word t ≡ true
 word_back t is = rw (is.0, is.2) (text_word is.1 is.3)
 
 number_there : (t : Lexeme) → is_metadata_number t ≡ true → IsMetadataNumber t
@@ -98,7 +98,7 @@ a_word : IsMetadataWord (record { kind = Metadata; text = codes "!a" })
 unfolding is_word begins_word is_letter
 a_word = (refl, codes "a", refl, refl)
 
-a_number : IsMetadataNumber (record { kind = Metadata; text = codes "!0" })
+pub a_number : IsMetadataNumber (record { kind = Metadata; text = codes "!0" })
 unfolding is_signed_number is_number is_digit
 a_number = (refl, codes "0", refl, refl)
 
@@ -214,14 +214,26 @@ attached_reads = chosen is_metadata_number number_reads node_reads
 abbrev pub attachment : Language
 attachment = comma · one IsMetadataWord · (one IsMetadataNumber or metadata_node)
 
+-- without its comma
+pub bare_attachment_reads : IsReader bare_attachment_at
+    (λ (x : Unit {0}). one IsMetadataWord · (one IsMetadataNumber or metadata_node)) Anything
+unfolding bare_attachment_at
+bare_attachment_reads = behind_token metadata_word_reads attached_reads
+
+-- The kind of an attachment is taken.
+pub attachment_begun : (t : Lexeme) (ts : List Lexeme) → is_metadata_word t ≡ true
+    → bare_attachment_at (t ∷ ts) ≡ Err (suc (length ts)) → ⊥
+unfolding bare_attachment_at
+attachment_begun t ts passed e = not_at_first is_metadata_word attached_reads t ts passed e
+
 attachment_reads : IsReader attachment_at (λ (x : Unit {0}). attachment) Anything
 unfolding attachment_at
 attachment_reads = behind_token (sign_reads 44) (behind_token metadata_word_reads attached_reads)
 
-attachment_begun : (t : Lexeme) (ts : List Lexeme) → is_punctuation 44 t ≡ true
+comma_begun : (t : Lexeme) (ts : List Lexeme) → is_punctuation 44 t ≡ true
     → attachment_at (t ∷ ts) ≡ Err (suc (length ts)) → ⊥
 unfolding attachment_at
-attachment_begun t ts passed e = not_at_first (is_punctuation 44) (behind_token metadata_word_reads attached_reads) t
+comma_begun t ts passed e = not_at_first (is_punctuation 44) (behind_token metadata_word_reads attached_reads) t
     ts passed e
 
 many_of : (A : Language) (xs : List (Unit {0})) (ts : List Lexeme) → InSequence (λ x. A) xs ts → Many A ts
@@ -244,7 +256,7 @@ attachments_read = of_language (λ (x : Unit {0}). attachments)
     (λ x ts l. let many = of_many attachment ts l in (many.0, refl, many.1))
     (mapped (λ xs. tt) NoComma no_comma behind_any
     (repeated (is_punctuation 44) (λ t. Unit {0}) attachment_reads (λ x ts l. rw (l.2, l.3) (is_sign_itself 44)) (λ t
-    e. tt) attachment_begun))
+    e. tt) comma_begun))
   where
     no_comma : (xs : List (Unit {0})) (t : Lexeme) → Behind (is_punctuation 44) (λ t. Unit {0}) xs t → NoComma tt t
     no_comma [] t h = h

@@ -59,7 +59,7 @@ unfolding is_passed_text int_width_of
 cc_begins = refl
 
 -- Each piece begins with a token that begins one.
-piece_starts : (ts : List Lexeme) → IsPiece ts → begins begins_piece ts ≡ true
+pub piece_starts : (ts : List Lexeme) → IsPiece ts → begins begins_piece ts ≡ true
 piece_starts ts (inl l) = rw l.1 (passed_begins l.0 l.2)
 piece_starts ts (inr (inl l)) = rw (l.2, l.3.1) (passed_begins l.3.0 l.3.2)
 piece_starts ts (inr (inr (inl (us, vs, parts, inl first, number)))) = rw (parts, first) align_begins

@@ -62,6 +62,12 @@ node_at = choose is_bang braced_node_at named_node_at
 unfoldable pub attached_at : Read (Unit {0})
 attached_at = choose is_metadata_number (token_at is_metadata_number) node_at
 
+-- without its comma
+unfoldable pub bare_attachment_at : Read (Unit {0})
+bare_attachment_at = do
+  _ ← token_at is_metadata_word
+  attached_at
+
 unfoldable pub attachment_at : Read (Unit {0})
 attachment_at = do
   _ ← punctuation_at 44

@@ -5,7 +5,7 @@ ghost use Rattle.ir_text.specs.PassedOn.{attachments, metadata_pairs};
 ghost use Rattle.ir_parts.specs.Sentences.{TellsPlace};
 ghost use Rattle.ir_parts.specs.Reading.{left_from, begins, token_at, Passes};
 ghost use Rattle.ir_parts.specs.ListReading.{begins_part};
-ghost use Rattle.ir_parts.specs.MetadataReading.{is_metadata, is_word_text, is_number_text, is_bang_text, is_metadata_word, is_metadata_number, is_bang, braces_at, braced_node_at, named_node_at, node_at, attached_at, attachment_at, attachments_at, pair_at, pairs_at};
+ghost use Rattle.ir_parts.specs.MetadataReading.{is_metadata, is_word_text, is_number_text, is_bang_text, is_metadata_word, is_metadata_number, is_bang, braces_at, braced_node_at, named_node_at, node_at, attached_at, bare_attachment_at, attachment_at, attachments_at, pair_at, pairs_at};
 
 use crate::brackets::behind_brackets;
 use crate::cursor::{behind_sign, next, starts_sign};
@@ -140,12 +140,27 @@ fn pair(tokens: &Tokens<'_>, from: usize) -> Result<usize, ItemFault>
     metadata(tokens, at)
 }
 
+/// The place behind an attachment whose comma stands before.
+#[tactic(auto, unfolding(crate::specs::MetadataReading::bare_attachment_at))]
+pub fn skip_bare_attachment(
+    alloc: Global,
+    tokens: &Tokens<'_>,
+    from: usize,
+) -> Result<usize, ItemFault>
+    requires { from ≤ length tokens.now.tokens }
+    ensures value { Passes tokens.now result (bare_attachment_at (left_from tokens.now from)) }
+    ensures forth { IfOk result (λ at. (from < at) × (at ≤ length tokens.now.tokens)) }
+{
+    let at = metadata_word(tokens, from)?;
+    attached(alloc, tokens, at)
+}
+
 fn metadata_word(tokens: &Tokens<'_>, from: usize) -> Result<usize, ItemFault>
     requires { from ≤ length tokens.now.tokens }
     ensures value { Passes tokens.now result (token_at is_metadata_word (left_from tokens.now from)) }
     ensures forth { IfOk result (λ at. (from < at) × (at ≤ length tokens.now.tokens)) }
 {
-    if starts_word(tokens, from) {
+    if starts_metadata_word(tokens, from) {
         Ok(from + 1)
     } else {
         Err(ItemFault::CannotGoOn { at_token: from })
@@ -196,7 +211,8 @@ pub fn starts_part(tokens: &Tokens<'_>, from: usize) -> bool
     starts_sign(tokens, from, b',') && !starts_metadata(tokens, from + 1)
 }
 
-fn starts_word(tokens: &Tokens<'_>, from: usize) -> bool
+/// Whether the token at a place is the kind of an attachment, `!` and a word.
+pub fn starts_metadata_word(tokens: &Tokens<'_>, from: usize) -> bool
     ensures value { result ≡ begins is_metadata_word (left_from tokens.now from) }
     ensures within { IsTrue result → (from < length tokens.now.tokens) × (from + 1 < 2 ^ 64) }
 {
