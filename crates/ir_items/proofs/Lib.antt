@@ -1,3 +1,5 @@
 pub mod FirstParts
 pub mod LeftOut
 pub mod LayoutFaults
+pub mod FineLayouts
+pub mod LineReaders

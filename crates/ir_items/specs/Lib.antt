@@ -1,1 +1,2 @@
 pub mod LayoutScan
+pub mod LineReading

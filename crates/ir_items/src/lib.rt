@@ -3,6 +3,8 @@
 #![tactic(auto)]
 
 mod layout;
+mod lines;
 
 pub use ir_parts::{ItemFault, read_type, skip_metadata};
 pub use layout::layout_fault;
+pub use lines::read_passed_line;

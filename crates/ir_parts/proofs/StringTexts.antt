@@ -46,10 +46,10 @@ all_four a b c d e f g h = rw (e, f, g, h) refl
 framed_text : List ℕ → List ℕ
 framed_text inner = 34 ∷ (inner ++ 34 ∷ [])
 
-inner_of : (inner : List ℕ) → inner_text (framed_text inner) ≡ inner
-unfolding framed_text
+-- what stands between the quotes
+pub inner_of : (inner : List ℕ) → inner_text (34 ∷ (inner ++ 34 ∷ [])) ≡ inner
 inner_of inner =
-    let count : length (framed_text inner) - 2 ≡ length inner = omega (arith, length-append inner (34 ∷ [])) in
+    let count : length (34 ∷ (inner ++ 34 ∷ [])) - 2 ≡ length inner = omega (arith, length-append inner (34 ∷ [])) in
     ap (λ (n : ℕ). take n (inner ++ 34 ∷ [])) count ∙ take-append_seam inner (34 ∷ [])
 
 string_of : (inner : List ℕ) → list_all is_no_quote inner ≡ true → is_string_text (framed_text inner) ≡ true
