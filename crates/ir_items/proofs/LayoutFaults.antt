@@ -21,11 +21,11 @@ faults_begin text = record {
 }
 
 -- nothing is left out under any number
-none_left_out : (spec : List ℕ) → left_out spec ≡ None → (word : ℕ) → LeavesOut spec word → ⊥
+pub none_left_out : (spec : List ℕ) → left_out spec ≡ None → (word : ℕ) → LeavesOut spec word → ⊥
 none_left_out spec e word out = let both = sym e ∙ left_out_back spec word out in cc
 
 -- the fault is the first specification's, or one behind it
-past_first : (spec more : List ℕ) (text : List ℕ) (word at : ℕ) → text ≡ spec ++ 45 ∷ more → (Contains spec 45 → ⊥)
+pub past_first : (spec more : List ℕ) (text : List ℕ) (word at : ℕ) → text ≡ spec ++ 45 ∷ more → (Contains spec 45 → ⊥)
     → ((word : ℕ) → LeavesOut spec word → ⊥) → IsLayoutFault text word at
     → (behind : ℕ) × IsLayoutFault more word behind
 past_first spec more text word at parts free fine (here first rest cut without ends out) =
@@ -64,24 +64,25 @@ fault_here text rest from word so_far out =
     (so_far.there word 0 (here (first_part 45 rest) p.rest p.parts p.free p.ends
     (left_out_there (first_part 45 rest) word out)))
 
+-- one specification alone that isn't left out
+pub no_later : (rest : List ℕ) (word at : ℕ) → (Contains rest 45 → ⊥) → ((word : ℕ) → LeavesOut rest word → ⊥)
+    → IsLayoutFault rest word at → ⊥
+no_later rest word at free fine (here first behind cut without ends out) =
+    let same = parted_once 45 rest first [] behind (append-nil rest ∙ cut) free without (inl refl) ends in
+    fine word (subst (λ (first : List ℕ). LeavesOut first word) (sym same.0) out)
+no_later rest word at free fine (later first behind cut without others fault) =
+    let same = parted_once 45 rest first [] (45 ∷ behind) (append-nil rest ∙ cut) free without (inl refl)
+    (inr (behind, refl)) in
+    let none = same.1 in cc
+
 -- the first one is the last, and isn't left out
 pub no_fault : (text rest : List ℕ) (from : ℕ) → FaultsFrom text rest from → first_part 45 rest ≡ rest
     → left_out (first_part 45 rest) ≡ None → (word at : ℕ) → IsLayoutFault text word at → ⊥
 no_fault text rest from so_far all fine word at fault =
     let found = so_far.back word at fault in
-    whole rest word found.0 (subst (λ (spec : List ℕ). Contains spec 45 → ⊥) all (is_parted 45 rest).free)
+    no_later rest word found.0 (subst (λ (spec : List ℕ). Contains spec 45 → ⊥) all (is_parted 45 rest).free)
     (subst (λ (spec : List ℕ). (word : ℕ) → LeavesOut spec word → ⊥) all (none_left_out (first_part 45 rest) fine))
     found.1
-  where
-    whole : (rest : List ℕ) (word at : ℕ) → (Contains rest 45 → ⊥) → ((word : ℕ) → LeavesOut rest word → ⊥)
-        → IsLayoutFault rest word at → ⊥
-    whole rest word at free fine (here first behind cut without ends out) =
-        let same = parted_once 45 rest first [] behind (append-nil rest ∙ cut) free without (inl refl) ends in
-        fine word (subst (λ (first : List ℕ). LeavesOut first word) (sym same.0) out)
-    whole rest word at free fine (later first behind cut without others fault) =
-        let same = parted_once 45 rest first [] (45 ∷ behind) (append-nil rest ∙ cut) free without (inl refl)
-        (inr (behind, refl)) in
-        let none = same.1 in cc
 
 -- ---- the first specification of what is left at a place
 

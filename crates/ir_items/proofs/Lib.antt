@@ -14,3 +14,5 @@ pub mod RunEnds
 pub mod TailReaders
 pub mod TailReader
 pub mod GlobalReaders
+pub mod FineLayouts
+pub mod LineReaders

@@ -1,9 +1,10 @@
 -- How a data layout is looked through for what is left out.
-use Rattle.std.specs.Prelude.{◌≡◌, ℕ, Bool, false, nat_eq, nat_lt, ◌&&◌, ◌==◌, not, if◌then◌else◌, List, [], ◌∷◌, length, take, Option, Some, None, ◌⊎◌, codes}
+use Rattle.std.specs.Prelude.{◌≡◌, ℕ, Bool, false, nat_eq, nat_lt, ◌&&◌, ◌==◌, not, if◌then◌else◌, List, [], ◌∷◌, ◌++◌, length, take, Option, Some, None, ◌⊎◌, codes}
 use Rattle.std.specs.List.{list_all, position_or_len}
 use Rattle.std.specs.Str.{bytes_eq}
 use Rattle.std.specs.Str.Parse.{digits_value}
 use Rattle.ir_text.specs.Bytes.{is_digit}
+use Rattle.ir_parts.specs.WordsReading.{is_none}
 
 -- nothing stands there, or the byte
 abbrev pub EndsAt : ℕ → List ℕ → Type 0
@@ -39,3 +40,13 @@ is_other_pointer (b ∷ bs) = (b == 112) && is_default_size bs
 -- the number under which a specification is left out
 abbrev pub left_out : List ℕ → Option ℕ
 left_out spec = if bytes_eq spec (codes "E") then Some 4 else (if is_other_pointer spec then Some 5 else None)
+
+-- Whether no specification is left out, of which the first has begun with these bytes.
+unfoldable pub is_fine_behind : List ℕ → List ℕ → Bool
+is_fine_behind spec [] = is_none (left_out spec)
+is_fine_behind spec (b ∷ bs) =
+    if b == 45 then is_none (left_out spec) && is_fine_behind [] bs else is_fine_behind (spec ++ b ∷ []) bs
+
+-- nothing of a data layout is left out
+abbrev pub is_fine_layout : List ℕ → Bool
+is_fine_layout text = is_fine_behind [] text

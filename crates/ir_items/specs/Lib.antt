@@ -3,3 +3,4 @@ pub mod LiteralReading
 pub mod InitReading
 pub mod TailReading
 pub mod GlobalReading
+pub mod LineReading

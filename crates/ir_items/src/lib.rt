@@ -5,8 +5,10 @@
 mod global_ending;
 mod initialiser;
 mod layout;
+mod lines;
 mod literal;
 
 pub use global_ending::GlobalEnding;
 pub use ir_parts::{ItemFault, read_type, skip_metadata};
 pub use layout::layout_fault;
+pub use lines::read_passed_line;

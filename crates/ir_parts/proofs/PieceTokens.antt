@@ -92,7 +92,7 @@ passed_back t is = rw is.0 (passed_text_back t.text is.1)
 
 -- ---- strings
 
-quoted_kind : (kind : TokenKind) → is_quoted kind ≡ true → kind ≡ Quoted
+pub quoted_kind : (kind : TokenKind) → is_quoted kind ≡ true → kind ≡ Quoted
 quoted_kind Quoted e = refl
 quoted_kind _ e = absurd cc
 

@@ -48,10 +48,10 @@ framed_text : List ℕ → List ℕ
 framed_text inner = 34 ∷ (inner ++ 34 ∷ [])
 
 -- What stands between the quotes is that.
-inner_of : (inner : List ℕ) → inner_text (framed_text inner) ≡ inner
+pub inner_of : (inner : List ℕ) → inner_text (34 ∷ (inner ++ 34 ∷ [])) ≡ inner
 unfolding framed_text
 inner_of inner =
-    let count : length (framed_text inner) - 2 ≡ length inner = omega (arith, length-append inner (34 ∷ [])) in
+    let count : length (34 ∷ (inner ++ 34 ∷ [])) - 2 ≡ length inner = omega (arith, length-append inner (34 ∷ [])) in
     ap (λ (n : ℕ). take n (inner ++ 34 ∷ [])) count ∙ take-append_seam inner (34 ∷ [])
 
 -- Such a text passes the test.

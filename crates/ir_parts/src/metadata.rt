@@ -121,7 +121,7 @@ fn named_node(alloc: Global, tokens: &Tokens<'_>, from: usize) -> Result<usize, 
 
 /// The place behind `{ .. }`.
 #[tactic(auto, unfolding(crate::specs::MetadataReading::braces_at))]
-pub(crate) fn braces(alloc: Global, tokens: &Tokens<'_>, from: usize) -> Result<usize, ItemFault>
+pub fn braces(alloc: Global, tokens: &Tokens<'_>, from: usize) -> Result<usize, ItemFault>
     requires { from ≤ length tokens.now.tokens }
     ensures value { Passes tokens.now result (braces_at (left_from tokens.now from)) }
     ensures forth { IfOk result (λ at. (from < at) × (at ≤ length tokens.now.tokens)) }

@@ -218,7 +218,7 @@ fn value(tokens: &Tokens<'_>, from: usize) -> Result<usize, ItemFault>
 }
 
 /// The place behind a string.
-pub(crate) fn string(tokens: &Tokens<'_>, from: usize) -> Result<usize, ItemFault>
+pub fn string(tokens: &Tokens<'_>, from: usize) -> Result<usize, ItemFault>
     requires { from ≤ length tokens.now.tokens }
     ensures value { Passes tokens.now result (token_at is_string_token (left_from tokens.now from)) }
     ensures forth { IfOk result (λ at. (from < at) × (at ≤ length tokens.now.tokens)) }
@@ -241,7 +241,7 @@ fn group_piece(tokens: &Tokens<'_>, from: usize) -> Result<(Ending, usize), Item
 }
 
 /// The place behind a group of attributes.
-pub(crate) fn group(tokens: &Tokens<'_>, from: usize) -> Result<usize, ItemFault>
+pub fn group(tokens: &Tokens<'_>, from: usize) -> Result<usize, ItemFault>
     requires { from ≤ length tokens.now.tokens }
     ensures value { Passes tokens.now result (token_at is_group (left_from tokens.now from)) }
     ensures forth { IfOk result (λ at. (from < at) × (at ≤ length tokens.now.tokens)) }
