@@ -8,3 +8,4 @@ pub mod ChainTellers
 pub mod CalleeReaders
 pub mod HeadReaders
 pub mod ArgumentLists
+pub mod CallTellers
