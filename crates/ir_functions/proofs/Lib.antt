@@ -13,3 +13,4 @@ pub mod UntilTellers
 pub mod LinesTellers
 pub mod CalleeReaders
 pub mod HeadReaders
+pub mod ListingTellers
