@@ -15,3 +15,4 @@ pub mod CalleeReaders
 pub mod HeadReaders
 pub mod ArgumentLists
 pub mod CallTellers
+pub mod ListingTellers
