@@ -38,8 +38,7 @@ layout_there t e =
     let parts = and_parts (is_quoted t.kind) (is_layout_text t.text) e in
     let both = and_parts (is_string_text t.text) (is_fine_layout (inner_text t.text)) parts.1 in
     let quoted = is_quoted_by t.text both.0 in
-    let inner : inner_text t.text ≡ quoted.0 = ap inner_text quoted.1 ∙ inner_of quoted.0 in
-    (
+    let inner : inner_text t.text ≡ quoted.0 = ap inner_text quoted.1 ∙ inner_of quoted.0 in (
       quoted_kind t.kind parts.0,
       quoted.0,
       quoted.1,

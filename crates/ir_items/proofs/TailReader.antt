@@ -102,8 +102,16 @@ runs_back [] true ts l most short =
       attached_behind most ([], true) a.1 (refl, a.4),
     )
 runs_back (run ∷ runs) attached ts l zero short =
-    absurd (omega (arith, ap length l.2, length-append l.0 l.1, ap length l.3.2, length-append l.3.0 l.3.1,
-    ap length l.3.3.2, length-append l.3.3.0 l.3.3.1, ap length l.3.3.3))
+    absurd (omega (
+      arith,
+      ap length l.2,
+      length-append l.0 l.1,
+      ap length l.3.2,
+      length-append l.3.0 l.3.1,
+      ap length l.3.3.2,
+      length-append l.3.3.0 l.3.3.1,
+      ap length l.3.3.3,
+    ))
 runs_back (run ∷ runs) attached ts l (suc most) short =
     let first = l.3.3 in
     let rest : List Lexeme = l.3.1 ++ l.1 in

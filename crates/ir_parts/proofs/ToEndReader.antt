@@ -174,7 +174,7 @@ module _ {X : Type 0} (barred : X → Lexeme → Bool) {item : Read X} {L : X �
   begun_behind x taken [] after others whole l stops begun = record {
     whole = x ∷ [];
     others = [];
-    is_begun = (taken, [], append-nil (taken ++ []) , l, tt, refl);
+    is_begun = (taken, [], append-nil (taken ++ []), l, tt, refl);
   }
   begun_behind x taken (t ∷ before) after others whole l stops begun = record {
     whole = x ∷ whole;
@@ -236,21 +236,21 @@ module _ {X : Type 0} (barred : X → Lexeme → Bool) {item : Read X} {L : X �
   end_refused zero (t ∷ ts) left h e = absurd (omega arith)
   end_refused (suc most) (t ∷ ts) left h e = elim (one_refused (item (t ∷ ts)) (more_of most) left
       (sym (one_more most (t ∷ ts) (omega arith)) ∙ e)) [
-    | inl refused ↦ item_refused (t ∷ ts) left refused
-    | inr b ↦
-        let k = item_reads.takes (t ∷ ts) b.middle b.value b.first in
-        elim (either (begins (barred b.value) b.middle)) [
-          | inl passed ↦
-              barred_there (t ∷ ts) b.middle left b.value k passed
-              (let e = sym (refused_at most b.value b.middle passed) ∙ b.second in cc)
-          | inr failed ↦
-              elim (one_refused (to_end_at barred item most b.middle) (λ xs. pure (b.value ∷ xs)) left
-              (sym (goes_on most b.value b.middle failed) ∙ b.second)) [
-                | inl refused ↦
-                    later_refused (t ∷ ts) b.middle left b.value k failed
-                    (end_refused most b.middle left
-                    (omega (arith, longer b.value k.taken b.middle k.spelled, ap length k.parts, h)) refused)
-                | inr d ↦ absurd (let e = d.second in cc)
-              ]
-        ]
-  ]
+        | inl refused ↦ item_refused (t ∷ ts) left refused
+        | inr b ↦
+            let k = item_reads.takes (t ∷ ts) b.middle b.value b.first in
+            elim (either (begins (barred b.value) b.middle)) [
+              | inl passed ↦
+                  barred_there (t ∷ ts) b.middle left b.value k passed
+                  (let e = sym (refused_at most b.value b.middle passed) ∙ b.second in cc)
+              | inr failed ↦
+                  elim (one_refused (to_end_at barred item most b.middle) (λ xs. pure (b.value ∷ xs)) left
+                  (sym (goes_on most b.value b.middle failed) ∙ b.second)) [
+                    | inl refused ↦
+                        later_refused (t ∷ ts) b.middle left b.value k failed
+                        (end_refused most b.middle left
+                        (omega (arith, longer b.value k.taken b.middle k.spelled, ap length k.parts, h)) refused)
+                    | inr d ↦ absurd (let e = d.second in cc)
+                  ]
+            ]
+      ]
