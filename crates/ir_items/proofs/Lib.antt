@@ -3,3 +3,4 @@ pub mod LeftOut
 pub mod LayoutFaults
 pub mod FineLayouts
 pub mod LineReaders
+pub mod DroppedReaders

@@ -1,2 +1,3 @@
 pub mod LayoutScan
 pub mod LineReading
+pub mod DroppedReading

@@ -2,9 +2,11 @@
 //! dropped or passed on.
 #![tactic(auto)]
 
+mod dropped;
 mod layout;
 mod lines;
 
+pub use dropped::skip_metadata_item;
 pub use ir_parts::{ItemFault, read_type, skip_metadata};
 pub use layout::layout_fault;
 pub use lines::read_passed_line;

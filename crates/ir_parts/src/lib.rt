@@ -20,7 +20,10 @@ pub use cursor::{behind_keyword, behind_sign, next, starts_keyword, starts_sign}
 pub use ending::{Ending, Run};
 pub use fault::ItemFault;
 pub use forms::{inner_text, is_number, is_signed_number, is_string_text};
-pub use metadata::{braces as skip_braces, skip_metadata, skip_pairs, starts_part};
+pub use metadata::{
+    braces as skip_braces, metadata as behind_metadata, skip_metadata, skip_node, skip_pairs,
+    starts_part,
+};
 pub use numbers::{are_digits, small_number};
 pub use passed_text::text_between;
 pub use pieces::{group as behind_group, string as behind_string};
