@@ -4,3 +4,4 @@ pub mod LayoutFaults
 pub mod FineLayouts
 pub mod LineReaders
 pub mod DroppedReaders
+pub mod DeclaredReaders

@@ -1,3 +1,4 @@
 pub mod LayoutScan
 pub mod LineReading
 pub mod DroppedReading
+pub mod DeclaredReading
