@@ -5,7 +5,7 @@ use Rattle.std.specs.Option.{is_some}
 use Rattle.std.proofs.lemmas.Bool.{and_parts, eqb-true, eq-eqb}
 use Rattle.std.proofs.lemmas.List.{append-nil}
 use Rattle.std.proofs.lemmas.List.Elements.{Contains-push_cases}
-use Rattle.ir_grammar.specs.Layout.{LeavesOut, IsLayoutFault}
+use Rattle.ir_grammar.specs.Layout.{IsLayoutFault}
 use Rattle.ir_grammar.specs.Layout.IsLayoutFault.{here, later}
 use Rattle.ir_parts.specs.WordsReading.{is_none}
 use Rattle.ir_parts.proofs.Readers.{either}
@@ -15,6 +15,7 @@ use Rattle.ir_items.proofs.FirstParts.{nothing_contained}
 use Rattle.ir_items.proofs.LeftOut.{left_out_there}
 use Rattle.ir_items.proofs.LayoutFaults.{none_left_out, past_first, no_later}
 
+-- what is none
 none_given : (found : Option ℕ) → is_none found ≡ true → found ≡ None
 none_given None e = refl
 none_given (Some x) e = absurd cc
@@ -26,6 +27,7 @@ still_free spec b other free found = elim (Contains-push_cases spec b 45 found) 
   | inr is ↦ let same = eq-eqb b 45 is in cc
 ]
 
+-- a byte goes over to the specification
 next_byte : (spec bs : List ℕ) (b : ℕ) → (spec ++ b ∷ []) ++ bs ≡ spec ++ b ∷ bs
 next_byte spec bs b = append_assoc spec (b ∷ []) bs
 

@@ -16,3 +16,5 @@ pub mod TailReader
 pub mod GlobalReaders
 pub mod FineLayouts
 pub mod LineReaders
+pub mod DroppedReaders
+pub mod DeclaredReaders

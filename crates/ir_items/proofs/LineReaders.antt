@@ -1,5 +1,5 @@
 -- Lines that are passed on are read.
-use Rattle.std.proofs.Common.{◌≡◌, ℕ, suc, ◌-◌, ◌≤◌, Bool, true, false, ◌&&◌, List, [], ◌∷◌, ◌++◌, length, take, Ok, Err, ◌⊎◌, inl, inr, refl, sym, ap, subst, ◌∙◌, codes, arith}
+use Rattle.std.proofs.Common.{◌≡◌, ℕ, suc, ◌-◌, ◌≤◌, true, false, List, [], ◌∷◌, ◌++◌, length, take, Ok, Err, inl, inr, refl, sym, ap, ◌∙◌, codes, arith}
 use Rattle.std.proofs.lemmas.Bool.{and_parts}
 use Rattle.ir_text.specs.declared.token.TokenKind.TheVariants.{Quoted, Group}
 use Rattle.ir_text.specs.Bytes.{is_digit}
@@ -11,15 +11,14 @@ use Rattle.ir_text.specs.Said.{is_string_text, inner_text}
 use Rattle.ir_text.specs.Written.{IsStringToken, unescaped}
 use Rattle.ir_text.specs.PassedOn.{is_quoted, passed_text, IsAttributeGroup, in_braces}
 use Rattle.ir_lex.specs.Tokenized.{Tokenized}
-use Rattle.ir_grammar.specs.Layout.{IsLayout, IsLayoutFault}
+use Rattle.ir_grammar.specs.Layout.{IsLayout}
 use Rattle.ir_grammar.specs.Items.{passed_line}
 use Rattle.ir_parts.specs.declared.fault.ItemFault.{ItemFault}
 use Rattle.ir_parts.specs.declared.fault.ItemFault.TheVariants.{CannotGoOn, OutOfMemory}
 use Rattle.ir_parts.specs.Reading.{left_from, taking, Reads, Passes, begins, token_at, is_keyword}
-use Rattle.ir_parts.specs.WordsReading.{is_string_token, is_group}
-use Rattle.ir_parts.specs.MetadataReading.{braces_at}
+use Rattle.ir_parts.specs.WordsReading.{is_group}
 use Rattle.ir_parts.proofs.Readers.{IsReader, Anything, of_language, mapped, chosen}
-use Rattle.ir_parts.proofs.Combined.{token_reads, behind_token, not_at_first}
+use Rattle.ir_parts.proofs.Combined.{behind_token, not_at_first}
 use Rattle.ir_parts.proofs.SingleTokens.{both_true, keyword_reads, sign_reads, is_itself}
 use Rattle.ir_parts.proofs.StringTexts.{is_quoted_by, quoted_is_string, inner_of}
 use Rattle.ir_parts.proofs.PieceTokens.{quoted_kind, group_there, group_back}
@@ -33,6 +32,7 @@ use Rattle.ir_items.proofs.FineLayouts.{fine_there, fine_back}
 
 -- ---- the string of a data layout
 
+-- its test, both ways
 layout_there : (t : Lexeme) → is_layout t ≡ true → IsLayout t
 layout_there t e =
     let parts = and_parts (is_quoted t.kind) (is_layout_text t.text) e in
@@ -54,14 +54,17 @@ layout_back t is =
     (ap (λ (text : List ℕ). is_fine_layout (inner_text text)) is.2
     ∙ (ap is_fine_layout (inner_of is.1) ∙ fine_back is.1 is.4)))
 
+-- one of them
 empty_layout : IsLayout (record { kind = Quoted; text = 34 ∷ 34 ∷ [] })
 unfolding is_fine_behind is_other_pointer
 empty_layout = (refl, [], refl, refl, fine_there [] refl)
 
+-- it is read
 layout_reads : IsReader (token_at is_layout) (λ (x : Unit {0}). one IsLayout) Anything
 layout_reads = single is_layout IsLayout layout_there layout_back (record { kind = Quoted; text = 34 ∷ 34 ∷ [] })
     empty_layout
 
+-- a group of attributes is read
 a_group : IsAttributeGroup (record { kind = Group; text = codes "#0" })
 unfolding is_signed_number is_number is_digit
 a_group = (refl, codes "0", refl, refl)
@@ -75,6 +78,7 @@ group_token_reads = single is_group IsAttributeGroup group_there group_back (rec
 
 -- ---- lines
 
+-- their languages, in the order of the reading
 abbrev string_set : Language
 string_set = punctuation 61 · one IsStringToken
 
@@ -108,6 +112,7 @@ word_other : (text other : List ℕ) (B : Language) (taken rest : List Lexeme) �
     → (keyword other · B) taken → begins (is_keyword text) (taken ++ rest) ≡ false
 word_other text other B taken rest apart l = rw (l.2, l.3) apart
 
+-- each part is read
 string_set_reads : IsReader string_set_at (λ (x : Unit {0}). string_set) Anything
 unfolding string_set_at
 string_set_reads = behind_token (sign_reads 61) string_reads
@@ -132,6 +137,7 @@ data_layout_reads : IsReader data_layout_at (λ (x : Unit {0}). data_layout) Any
 unfolding data_layout_at
 data_layout_reads = behind_token (keyword_reads (codes "datalayout")) layout_set_reads
 
+-- the word that decides is taken
 triple_begun : (t : Lexeme) (ts : List Lexeme) → is_keyword (codes "triple") t ≡ true
     → triple_at (t ∷ ts) ≡ Err (suc (length ts)) → ⊥
 unfolding triple_at
@@ -153,6 +159,7 @@ unfolding attributes_line_at
 attributes_line_reads = behind_token (keyword_reads (codes "attributes")) (behind_token group_token_reads
     braces_set_reads)
 
+-- and here too
 target_begun : (t : Lexeme) (ts : List Lexeme) → is_keyword (codes "target") t ≡ true
     → target_line_at (t ∷ ts) ≡ Err (suc (length ts)) → ⊥
 unfolding target_line_at
@@ -166,11 +173,13 @@ other_line_reads = chosen (is_keyword (codes "target")) target_line_reads attrib
     word_other (codes "target") (codes "attributes") (one IsAttributeGroup · braces_set) taken rest refl l)
     target_begun
 
+-- and here
 source_begun : (t : Lexeme) (ts : List Lexeme) → is_keyword (codes "source_filename") t ≡ true
     → source_line_at (t ∷ ts) ≡ Err (suc (length ts)) → ⊥
 unfolding source_line_at
 source_begun t ts passed e = not_at_first (is_keyword (codes "source_filename")) string_set_reads t ts passed e
 
+-- the other lines begin with other words
 no_source : (taken rest : List Lexeme) → (target_line or attributes_line) taken
     → begins (is_keyword (codes "source_filename")) (taken ++ rest) ≡ false
 no_source taken rest (inl l) =
@@ -191,6 +200,7 @@ line_back ts (inr (inl (us, vs, parts, first, l))) = inr (inl (us, vs, parts, fi
 line_back ts (inr (inr (inl (us, vs, parts, first, l)))) = inr (inl (us, vs, parts, first, inr l))
 line_back ts (inr (inr (inr l))) = inr (inr l)
 
+-- Lines are read, and nothing continues one.
 pub line_reads : IsReader line_at (λ (x : Unit {0}). passed_line) Anything
 unfolding line_at
 line_reads = of_language (λ (x : Unit {0}). passed_line) (λ x ts l. line_there ts l) (λ x ts l. line_back ts l)
@@ -205,6 +215,7 @@ line_reads = of_language (λ (x : Unit {0}). passed_line) (λ x ts l. line_there
 abbrev pub SpellsLine : List ℕ → Language
 SpellsLine text ts = passed_line ts × (text ≡ passed_text ts)
 
+-- the same by the tokens
 abbrev FromTokens : List ℕ → Language
 FromTokens text ts = (taken : Unit {0} × List Lexeme) × (text ≡ passed_text taken.1)
     × WithTokens (λ (x : Unit {0}). passed_line) taken ts
@@ -236,6 +247,7 @@ line_taken t from at text forth within read says =
     rw read (ap (λ (n : ℕ). Ok (passed_text (take n (left_from t from)), left_from t at)) so_many
     ∙ ap (λ (text : List ℕ). Ok (text, left_from t at)) (sym says))
 
+-- a fault of the line is one of the reading
 pub line_refused : (t : Tokenized) (from : ℕ) (fault : ItemFault) → Passes t (Err fault) (line_at (left_from t from))
     → Reads {X = List ℕ} t (Err fault) (passed_line_at (left_from t from))
 unfolding passed_line_at taking

@@ -4,3 +4,5 @@ pub mod InitReading
 pub mod TailReading
 pub mod GlobalReading
 pub mod LineReading
+pub mod DroppedReading
+pub mod DeclaredReading

@@ -3,7 +3,7 @@ use Rattle.std.specs.Prelude.{ℕ, Bool, ◌&&◌, List, codes}
 use Rattle.ir_text.specs.Tokens.{Lexeme}
 use Rattle.ir_text.specs.Said.{is_string_text, inner_text}
 use Rattle.ir_text.specs.PassedOn.{is_quoted, passed_text}
-use Rattle.ir_parts.specs.Reading.{Read, ◌>>=◌, pure, made, taking, token_at, is_keyword, keyword_at, punctuation_at, choose}
+use Rattle.ir_parts.specs.Reading.{Read, ◌>>=◌, made, taking, token_at, is_keyword, keyword_at, punctuation_at, choose}
 use Rattle.ir_parts.specs.WordsReading.{is_string_token, is_group}
 use Rattle.ir_parts.specs.MetadataReading.{braces_at}
 use Rattle.ir_items.specs.LayoutScan.{is_fine_layout}

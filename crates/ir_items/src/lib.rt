@@ -2,12 +2,14 @@
 //! dropped or passed on.
 #![tactic(auto)]
 
+mod dropped;
 mod global_ending;
 mod initialiser;
 mod layout;
 mod lines;
 mod literal;
 
+pub use dropped::skip_metadata_item;
 pub use global_ending::GlobalEnding;
 pub use ir_parts::{ItemFault, read_type, skip_metadata};
 pub use layout::layout_fault;

@@ -268,7 +268,7 @@ attachments_read = of_language (λ (x : Unit {0}). attachments)
 
 -- ---- pairs
 
-kind_reads : IsReader (token_at is_metadata) (λ (x : Unit {0}). one (λ t. t.kind ≡ Metadata)) Anything
+pub kind_reads : IsReader (token_at is_metadata) (λ (x : Unit {0}). one (λ t. t.kind ≡ Metadata)) Anything
 kind_reads = single is_metadata (λ t. t.kind ≡ Metadata) (λ t e. metadata_kind t.kind e) (λ t e. ap is_metadata_kind e)
     (record { kind = Metadata; text = codes "!" }) refl
 

@@ -1,7 +1,7 @@
 //! Metadata, which is dropped.
 
 ghost use Rattle.std.specs.Prelude.{◌≡◌, ◌+◌, ◌^◌, ◌<◌, ◌≤◌, length, IfOk, IsTrue};
-ghost use Rattle.ir_text.specs.PassedOn.{attachments, metadata_pairs};
+ghost use Rattle.ir_text.specs.PassedOn.{attachments, metadata_node, metadata_pairs};
 ghost use Rattle.ir_parts.specs.Sentences.{TellsPlace};
 ghost use Rattle.ir_parts.specs.Reading.{left_from, begins, token_at, Passes};
 ghost use Rattle.ir_parts.specs.ListReading.{begins_part};
@@ -83,6 +83,17 @@ fn attached(alloc: Global, tokens: &Tokens<'_>, from: usize) -> Result<usize, It
     } else {
         node(alloc, tokens, from)
     }
+}
+
+/// The place behind a node of metadata, `!{ .. }` or `!word( .. )`. A fault stands at the first token with which no node
+/// goes on; memory is taken for the brackets that are open.
+pub fn skip_node(alloc: Global, tokens: &Tokens<'_>, from: usize) -> Result<usize, ItemFault>
+    requires { from ≤ length tokens.now.tokens }
+    ensures sentence { TellsPlace metadata_node tokens.now from result }
+    ensures value { Passes tokens.now result (node_at (left_from tokens.now from)) }
+    ensures forth { IfOk result (λ at. (from < at) × (at ≤ length tokens.now.tokens)) }
+{
+    node(alloc, tokens, from)
 }
 
 /// `!{ .. }` or `!word( .. )`.
@@ -191,7 +202,8 @@ fn bang(tokens: &Tokens<'_>, from: usize) -> Result<usize, ItemFault>
     }
 }
 
-fn metadata(tokens: &Tokens<'_>, from: usize) -> Result<usize, ItemFault>
+/// The place behind any token of metadata.
+pub fn metadata(tokens: &Tokens<'_>, from: usize) -> Result<usize, ItemFault>
     requires { from ≤ length tokens.now.tokens }
     ensures value { Passes tokens.now result (token_at is_metadata (left_from tokens.now from)) }
     ensures forth { IfOk result (λ at. (from < at) × (at ≤ length tokens.now.tokens)) }
