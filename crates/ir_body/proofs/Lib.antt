@@ -22,3 +22,4 @@ pub mod CaseTellers
 pub mod AlignedTellers
 pub mod ListTellers
 pub mod OpTellers
+pub mod PartStarts
