@@ -23,3 +23,5 @@ pub mod AlignedTellers
 pub mod ListTellers
 pub mod OpTellers
 pub mod PartStarts
+pub mod GatheredLoops
+pub mod NumberAt

@@ -15,7 +15,8 @@ use crate::operation::Operation;
 use ir_lex::{TokenKind, Tokens};
 use ir_model::{Op, Text};
 use ir_parts::{
-    ItemFault, behind_keyword, behind_sign, next, read_int_type, read_stored_type, skip_metadata, starts_sign,
+    ItemFault, behind_keyword, behind_sign, next, read_int_type, read_stored_type, skip_metadata,
+    starts_sign,
 };
 use sqlite_items::Items;
 use std::alloc::Global;
@@ -63,11 +64,7 @@ fn numeral(alloc: Global, tokens: &Tokens<'_>, from: usize) -> Result<(Text, usi
     }
 }
 
-fn first_numeral(
-    alloc: Global,
-    tokens: &Tokens<'_>,
-    from: usize,
-) -> Result<Option<Text>, ItemFault>
+fn first_numeral(alloc: Global, tokens: &Tokens<'_>, from: usize) -> Result<Option<Text>, ItemFault>
     ensures value { IfOk result (λ found. first_given numeral_of (left_from tokens.now from) ≡ found) }
     ensures within { IfOk result (λ found.
         IfSome found (λ _. (from < length tokens.now.tokens) × (from + 1 < 2 ^ 64))) }

@@ -5,6 +5,7 @@
 mod aligned;
 mod binary;
 mod branch;
+mod cases;
 mod flags;
 mod names;
 mod opcode;
@@ -15,6 +16,7 @@ mod values;
 pub use aligned::{read_alloca, read_load, read_store};
 pub use binary::{read_binary, read_comparison, read_freeze};
 pub use branch::{read_br, read_ret};
+pub use cases::{read_switch, read_unreachable};
 pub use flags::Flags;
 pub use opcode::{Opcode, read_opcode, starts_call};
 pub use operands::{
