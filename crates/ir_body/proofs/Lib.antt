@@ -21,3 +21,6 @@ pub mod CaseTellers
 pub mod AlignedTellers
 pub mod ListTellers
 pub mod OpTellers
+pub mod PartStarts
+pub mod GatheredLoops
+pub mod NumberAt

@@ -1,5 +1,5 @@
 -- Readings of the cases of a switch, and of what ends blocks with them.
-use Rattle.std.specs.Prelude.{ℕ, Bool, ◌&&◌, ◌||◌, List, [], ◌∷◌, ℤ, pos, Option, Some, None, codes}
+use Rattle.std.specs.Prelude.{ℕ, ◌+◌, Result, Ok, Err, Bool, ◌&&◌, ◌||◌, List, [], ◌∷◌, ℤ, pos, Option, Some, None, codes}
 use Rattle.std.specs.Option.{is_some}
 use Rattle.std.specs.Str.{bytes_eq}
 use Rattle.std.specs.Str.Parse.{signed_digits_value}
@@ -9,6 +9,8 @@ use Rattle.ir_text.specs.declared.token.TokenKind.{TokenKind}
 use Rattle.ir_text.specs.declared.token.TokenKind.TheVariants.{Word, Numeral}
 use Rattle.ir_text.specs.Tokens.{Lexeme}
 use Rattle.ir_parts.specs.Reading.{Read, one_at, is_word_kind, repeated_at}
+use Rattle.ir_parts.specs.declared.fault.ItemFault.{ItemFault}
+use Rattle.ir_parts.specs.declared.fault.ItemFault.TheVariants.{CannotGoOn}
 use Rattle.ir_parts.specs.TypeReading.{int_width_of, scalar_type_at}
 use Rattle.ir_body.specs.declared.operation.Operation.{Operation}
 use Rattle.ir_body.specs.Tables.{look_up}
@@ -34,6 +36,11 @@ number_of t = number_of_parts t.kind t.text
 
 unfoldable pub number_at : Read ℤ
 number_at = one_at number_of
+
+-- the number that the token at a place is, with the place behind it, or the fault
+abbrev pub number_or_fault : Option ℤ → ℕ → Result (ℤ × ℕ) ItemFault
+number_or_fault (Some n) at = Ok (n, at + 1)
+number_or_fault None at = Err (CannotGoOn at)
 
 -- `type n, label %block`
 unfoldable pub case_at : Telling Case

@@ -1,7 +1,8 @@
 -- Parts of operations without ids, and the ids in them.
-use Rattle.std.specs.Prelude.{List, [], ◌∷◌, ◌++◌}
+use Rattle.std.specs.Prelude.{List, [], ◌∷◌, ◌++◌, map}
 use Rattle.scev_base.specs.declared.ids.BlockId.{BlockId}
-use Rattle.ir_text.specs.Sites.{Site, UsesBlock, operand_sites, bare_operand, op_sites, bare_op}
+use Rattle.ir_model.specs.declared.op.Case.{Case}
+use Rattle.ir_text.specs.Sites.{Site, UsesBlock, operand_sites, bare_operand, op_sites, bare_op, bare_case}
 use Rattle.ir_body.specs.declared.operands.Two.{Two}
 use Rattle.ir_body.specs.declared.operation.Operation.{Operation}
 
@@ -22,3 +23,14 @@ bare_operation operation = record { op = bare_op operation.op; words = operation
 
 abbrev pub operation_sites : Operation → List Site
 operation_sites operation = op_sites operation.op
+
+-- ---- cases
+
+abbrev pub case_sites : Case → List Site
+case_sites c = UsesBlock c.to.0 ∷ []
+
+abbrev pub bare_cases : List Case → List Case
+bare_cases cases = map bare_case cases
+
+abbrev pub cases_sites : List Case → List Site
+cases_sites cases = map (λ (c : Case). UsesBlock c.to.0) cases

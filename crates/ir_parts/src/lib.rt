@@ -32,7 +32,7 @@ pub use metadata::{
     skip_pairs, starts_metadata_word, starts_part,
 };
 pub use names::{is_global, is_local};
-pub use numbers::{are_digits, small_number};
+pub use numbers::{are_digits, int_width_of, small_number};
 pub use passed_text::text_between;
 pub use passed_words::{left_out_place, place_among};
 pub use pieces::{group as behind_group, string as behind_string};

@@ -57,7 +57,7 @@ pub(crate) fn without_sign(text: &[u8]) -> (bool, &[u8])
 
 /// The width of the type of integers that the text is.
 #[tactic(auto, unfolding(crate::specs::TypeReading::int_width_of))]
-pub(crate) fn int_width_of(text: &[u8]) -> Option<u32>
+pub fn int_width_of(text: &[u8]) -> Option<u32>
     ensures { result ≡ int_width_of text.now }
 {
     match text {
