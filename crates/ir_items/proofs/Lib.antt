@@ -11,3 +11,5 @@ pub mod RunEnds
 pub mod TailReaders
 pub mod TailReader
 pub mod GlobalReaders
+pub mod TailLoop
+pub mod GlobalSpelled

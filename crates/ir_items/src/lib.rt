@@ -2,9 +2,11 @@
 //! dropped or passed on.
 #![tactic(auto)]
 
+mod global;
 mod global_ending;
 mod initialiser;
 mod literal;
 
+pub use global::{ended_global, read_global};
 pub use global_ending::GlobalEnding;
 pub use ir_parts::{ItemFault, read_type, skip_metadata};
