@@ -1,5 +1,5 @@
 -- Globals are read.
-use Rattle.std.proofs.Common.{◌≡◌, ℕ, Bool, true, false, List, [], ◌∷◌, ◌++◌, map, Option, Some, None, ◌⊎◌, inl, inr, refl, sym, ap, subst, ◌∙◌, append_assoc, IsTrue, codes}
+use Rattle.std.proofs.Common.{◌≡◌, ℕ, Bool, true, false, List, [], ◌++◌, Option, Some, None, ◌⊎◌, inl, inr, refl, sym, ap, subst, ◌∙◌, codes}
 use Rattle.ir_model.specs.declared.types.IrType.{IrType}
 use Rattle.ir_model.specs.declared.item.Init.{Init}
 use Rattle.ir_model.specs.declared.item.Global_.{Global_}
@@ -15,7 +15,7 @@ use Rattle.ir_grammar.specs.Items.{SpellsInit, SpellsInitialiser, constant_word}
 use Rattle.ir_parts.specs.declared.ending.Ending.{Ending}
 use Rattle.ir_parts.specs.declared.ending.Ending.TheVariants.{Empty, Word, Placing, Placed, Quoted, Closed}
 use Rattle.ir_parts.specs.declared.ending.Run.{Run}
-use Rattle.ir_parts.specs.Reading.{Read, ◌>>=◌, pure, ◌⊗◌, ◌▷◌, ◌◁◌, made, is_keyword, one_at}
+use Rattle.ir_parts.specs.Reading.{made, is_keyword, one_at}
 use Rattle.ir_parts.specs.WordsReading.{is_passed_text}
 use Rattle.ir_parts.specs.Runs.{goes_on, SpellsRunText}
 use Rattle.ir_parts.proofs.Readers.{StopsAt, IsReader, Anything, of_language, mapped, one_reads, chosen, then_reads}
@@ -28,8 +28,7 @@ use Rattle.ir_parts.proofs.WordsReader.{StopsWords, words_read}
 use Rattle.ir_items.specs.declared.global_ending.GlobalEnding.{GlobalEnding}
 use Rattle.ir_items.specs.declared.global_ending.Typed.{Typed}
 use Rattle.ir_items.specs.declared.global_ending.Tail.{Tail}
-use Rattle.ir_items.specs.InitReading.{init_at}
-use Rattle.ir_items.specs.TailReading.{goes_on_global, tail_at}
+use Rattle.ir_items.specs.TailReading.{goes_on_global}
 use Rattle.ir_items.specs.GlobalReading.{name_at, constant_at, typed_of, typed_at, initialiser_at, valued_at, described_at, global_of, ended_global_at}
 use Rattle.ir_items.proofs.InitReader.{init_reads}
 use Rattle.ir_items.proofs.TailReader.{SpellsEndedTail, StopsTail, tail_read}

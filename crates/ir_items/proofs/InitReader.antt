@@ -1,11 +1,11 @@
 -- Initialisers are read.
 use Rattle.std.proofs.Common.{ℕ, zero, suc, ◌≤◌, List, [], ◌∷◌, ◌++◌, length, inl, inr, refl, sym, ap, subst, ◌∙◌, append_assoc, arith, codes}
-use Rattle.std.proofs.lemmas.List.{append-nil, length-append}
+use Rattle.std.proofs.lemmas.List.{length-append}
 use Rattle.ir_model.specs.declared.item.Init.{Init}
 use Rattle.ir_model.specs.declared.item.Init.TheVariants as init
 use Rattle.ir_model.specs.declared.item.InitPart.{InitPart}
 use Rattle.ir_text.specs.Tokens.{Lexeme}
-use Rattle.ir_text.specs.Listed.{word, sign}
+use Rattle.ir_text.specs.Listed.{word, sign, SeparatedByCommas}
 use Rattle.ir_text.specs.Language.{Language}
 use Rattle.ir_grammar.specs.Items.{SpellsInit, SpellsParts}
 use Rattle.ir_grammar.specs.Items.SpellsInit.{literal, zero as zeroed, bytes, list}
@@ -13,7 +13,7 @@ use Rattle.ir_grammar.specs.Items.SpellsParts.{last, more}
 use Rattle.ir_parts.proofs.Readers.{IsReader, Anything}
 use Rattle.ir_items.specs.InitReading.{nested_at, init_at}
 use Rattle.ir_items.proofs.PlainInits.{SpellsPlain}
-use Rattle.ir_items.proofs.PartReaders.{WithCommas, SpellsPart, SpellsList}
+use Rattle.ir_items.proofs.PartReaders.{SpellsPart, SpellsList}
 use Rattle.ir_items.proofs.InitLevels.{SpellsNested, nested_reads}
 use Rattle.ir_items.proofs.Bounded.{bounded_reads}
 use Rattle.ir_items.proofs.Nested.{nested_agree}
@@ -26,30 +26,21 @@ spelled_plain value ts (inr (inl l)) = subst (λ (value : Init). SpellsInit valu
 spelled_plain value ts (inr (inr l)) = subst (λ (value : Init). SpellsInit value ts) (sym l.1) (literal l.0 l.2)
 
 spelled_parts : (Value : Init → Language) → ((value : Init) (ts : List Lexeme) → Value value ts → SpellsInit value ts)
-    → (part : InitPart) (parts : List InitPart) (ts : List Lexeme) → WithCommas (SpellsPart Value) (part ∷ parts) ts
-    → SpellsParts (part ∷ parts) ts
-spelled_parts Value there part [] ts l =
+    → (parts : List InitPart) (ts : List Lexeme) → SeparatedByCommas (SpellsPart Value) parts ts → SpellsParts parts ts
+spelled_parts Value there [] ts l = absurd l
+spelled_parts Value there (part ∷ []) ts l = last part l.0 l.1 l.2 l.3 (there part.init l.1 l.4)
+spelled_parts Value there (part ∷ next ∷ parts) ts l =
     let first = l.3 in
-    last part first.0 first.1 (l.2 ∙ (ap (λ (us : List Lexeme). l.0 ++ us) l.4 ∙ (append-nil l.0 ∙ first.2))) first.3
-    (there part.init first.1 first.4)
-spelled_parts Value there part (next ∷ parts) ts l =
-    let first = l.3 in
-    let behind = l.4.3 in
-    more part (next ∷ parts) first.0 first.1 (behind.1 ++ l.4.1)
-    (rw (l.2, first.2, l.4.2, behind.2, behind.3) (append_assoc first.0 first.1 (sign 44 ∷ (behind.1 ++ l.4.1))))
-    first.3 (there part.init first.1 first.4)
-    (spelled_parts Value there next parts (behind.1 ++ l.4.1) (behind.1, l.4.1, refl, behind.4, l.4.4))
+    more part (next ∷ parts) first.0 first.1 l.1
+    (rw (l.2, first.2) (append_assoc first.0 first.1 (sign 44 ∷ l.1))) first.3 (there part.init first.1 first.4)
+    (spelled_parts Value there (next ∷ parts) l.1 l.4)
 
 spelled_list : (Value : Init → Language) → ((value : Init) (ts : List Lexeme) → Value value ts → SpellsInit value ts)
     → (value : Init) (ts : List Lexeme) → SpellsList Value value ts → SpellsInit value ts
 spelled_list Value there value ts l =
     let behind = l.2.4 in
     subst (λ (value : Init). SpellsInit value ts) (sym l.1)
-    (list l.0 behind.0 (rw (l.2.2, l.2.3, behind.2, behind.4) refl) (of_parts l.0 behind.0 behind.3))
-  where
-    of_parts : (parts : List InitPart) (ts : List Lexeme) → WithCommas (SpellsPart Value) parts ts → SpellsParts parts ts
-    of_parts [] ts l = absurd l
-    of_parts (part ∷ parts) ts l = spelled_parts Value there part parts ts l
+    (list l.0 behind.0 (rw (l.2.2, l.2.3, behind.2, behind.4) refl) (spelled_parts Value there l.0 behind.0 behind.3))
 
 nested_there : (most : ℕ) (value : Init) (ts : List Lexeme) → SpellsNested most value ts → SpellsInit value ts
 unfolding SpellsNested
@@ -65,15 +56,9 @@ plain_nested zero value ts l = l
 plain_nested (suc most) value ts l = inr l
 
 one_more : (Part : InitPart → Language) (part : InitPart) (parts : List InitPart) (us rest : List Lexeme) → Part part us
-    → WithCommas Part parts rest → WithCommas Part (part ∷ parts) (us ++ sign 44 ∷ rest)
+    → SeparatedByCommas Part parts rest → SeparatedByCommas Part (part ∷ parts) (us ++ sign 44 ∷ rest)
 one_more Part part [] us rest first l = absurd l
-one_more Part part (next ∷ parts) us rest first l = (
-  us,
-  sign 44 ∷ rest,
-  refl,
-  first,
-  (sign 44 ∷ l.0, l.1, ap (λ (ts : List Lexeme). sign 44 ∷ ts) l.2, (sign 44 ∷ [], l.0, refl, refl, l.3), l.4),
-)
+one_more Part part (next ∷ parts) us rest first l = (us, rest, refl, first, l)
 
 mutual
   unfolding SpellsNested
@@ -103,19 +88,14 @@ mutual
   )
 
   parts_back : {parts : List InitPart} {ts : List Lexeme} → SpellsParts parts ts → (most : ℕ) → length ts ≤ most
-      → WithCommas (SpellsPart (SpellsNested most)) parts ts
-  parts_back {ts = ts} (last part kind value e k v) most short = (
-    ts,
-    [],
-    sym (append-nil ts),
-    (kind, value, e, k, nested_back v most (omega (arith, ap length e, length-append kind value))),
-    refl,
-  )
+      → SeparatedByCommas (SpellsPart (SpellsNested most)) parts ts
+  parts_back (last part kind value e k v) most short =
+      (kind, value, e, k, nested_back v most (omega (arith, ap length e, length-append kind value)))
   parts_back (more part parts kind value rest e k v r) most short =
       let long = ap length e in
       let all = length-append kind (value ++ sign 44 ∷ rest) in
       let others = length-append value (sign 44 ∷ rest) in
-      subst (λ (ts : List Lexeme). WithCommas (SpellsPart (SpellsNested most)) (part ∷ parts) ts)
+      subst (λ (ts : List Lexeme). SeparatedByCommas (SpellsPart (SpellsNested most)) (part ∷ parts) ts)
       (append_assoc kind value (sign 44 ∷ rest) ∙ sym e)
       (one_more (SpellsPart (SpellsNested most)) part parts (kind ++ value) rest
       (kind, value, refl, k, nested_back v most (omega arith)) (parts_back r most (omega arith)))

@@ -18,3 +18,5 @@ pub mod FineLayouts
 pub mod LineReaders
 pub mod DroppedReaders
 pub mod DeclaredReaders
+pub mod TailLoop
+pub mod GlobalSpelled

@@ -1,72 +1,29 @@
 -- The parts of lists are read, where their initialisers are.
-use Rattle.std.proofs.Common.{◌≡◌, true, false, suc, List, [], ◌∷◌, ◌++◌, length, Err, refl, sym, subst}
+use Rattle.std.proofs.Common.{◌≡◌, true, suc, List, [], ◌∷◌, ◌++◌, length, Err, refl, sym, subst}
 use Rattle.ir_model.specs.declared.types.IrType.{IrType}
 use Rattle.ir_model.specs.declared.item.Init.{Init}
 use Rattle.ir_model.specs.declared.item.Init.TheVariants as init
 use Rattle.ir_model.specs.declared.item.InitPart.{InitPart}
 use Rattle.ir_text.specs.Tokens.{Lexeme}
-use Rattle.ir_text.specs.Listed.{InSequence}
-use Rattle.ir_text.specs.Language.{Language, ◌·◌, comma, punctuation}
+use Rattle.ir_text.specs.Listed.{sign, SeparatedByCommas}
+use Rattle.ir_text.specs.Language.{Language, ◌·◌, punctuation}
 use Rattle.ir_text.specs.Types.{IsStored, SpellsTypeOf}
 use Rattle.ir_parts.specs.Reading.{Read, ◌>>=◌, pure, is_punctuation, punctuation_at}
 use Rattle.ir_parts.specs.ListReading.{with_commas_at}
 use Rattle.ir_parts.proofs.Readers.{StopsAt, IsReader, Anything, of_language, mapped, followed}
-use Rattle.ir_parts.proofs.Repeated.{Behind, repeated}
 use Rattle.ir_parts.proofs.Combined.{behind_token, stands_for, not_at_first}
+use Rattle.ir_parts.proofs.ListReaders.{StopLast, with_commas_read}
 use Rattle.ir_parts.proofs.Together.{both_read_on}
-use Rattle.ir_parts.proofs.SingleTokens.{sign_reads, is_sign_itself}
+use Rattle.ir_parts.proofs.SingleTokens.{sign_reads}
 use Rattle.ir_parts.proofs.TypeReaders.{stored_types}
 use Rattle.ir_items.specs.InitReading.{part_at, list_at}
-
--- ---- one thing or more, with commas between them
-
-abbrev pub WithCommas : {X : Type 0} → (X → Language) → List X → Language
-WithCommas Item [] ts = ⊥
-WithCommas Item (x ∷ xs) ts = (Item x · InSequence (λ x. comma · Item x) xs) ts
-
--- No comma stands behind.
-abbrev pub NoComma : {X : Type 0} → X → Lexeme → Type 0
-NoComma x t = is_punctuation 44 t ≡ false
-
-pub with_commas_read : {X : Type 0} {item : Read X} {Item : X → Language} → IsReader item Item Anything
-    → IsReader (with_commas_at item) (WithCommas Item) NoComma
-unfolding with_commas_at
-with_commas_read {X} {item} {Item} reads =
-    of_language (WithCommas Item) there back
-    (mapped (λ (p : X × List X). p.0 ∷ p.1) NoComma (λ p t. no_comma p.1 t) (λ p t. behind_any p.1 t)
-    (both_read_on reads
-    (repeated (is_punctuation 44) (λ t. Unit {0}) (behind_token (sign_reads 44) reads)
-    (λ x ts l. rw (l.2, l.3) (is_sign_itself 44)) (λ t e. tt)
-    (λ t ts passed e. not_at_first (is_punctuation 44) reads t ts passed e))))
-  where
-    no_comma : (xs : List X) (t : Lexeme) → Behind (is_punctuation 44) (λ t. Unit {0}) xs t
-        → is_punctuation 44 t ≡ false
-    no_comma [] t h = h
-    no_comma (x ∷ xs) t h = h.0
-
-    behind_any : (xs : List X) (t : Lexeme) → is_punctuation 44 t ≡ false
-        → Behind (is_punctuation 44) (λ t. Unit {0}) xs t
-    behind_any [] t h = h
-    behind_any (x ∷ xs) t h = (h, tt)
-
-    Both : X × List X → Language
-    Both p = Item p.0 · InSequence (λ x. comma · Item x) p.1
-
-    there : (xs : List X) (ts : List Lexeme) → (p : X × List X) × (xs ≡ p.0 ∷ p.1) × Both p ts → WithCommas Item xs ts
-    there xs ts l = subst (λ (xs : List X). WithCommas Item xs ts) (sym l.1) l.2
-
-    back : (xs : List X) (ts : List Lexeme) → WithCommas Item xs ts → (p : X × List X) × (xs ≡ p.0 ∷ p.1) × Both p ts
-    back [] ts l = absurd l
-    back (x ∷ xs) ts l = ((x, xs), refl, l)
-
--- ---- parts and lists
 
 abbrev pub SpellsPart : (Init → Language) → InitPart → Language
 SpellsPart Value part = SpellsTypeOf IsStored part.kind · Value part.init
 
 abbrev pub SpellsList : (Init → Language) → Init → Language
 SpellsList Value value ts = (parts : List InitPart) × (value ≡ init.List parts)
-    × (punctuation 91 · WithCommas (SpellsPart Value) parts · punctuation 93) ts
+    × (punctuation 91 · SeparatedByCommas (SpellsPart Value) parts · punctuation 93) ts
 
 module _ {value : Read Init} {Value : Init → Language} (value_reads : IsReader value Value Anything) where
   pub part_reads : IsReader (part_at value) (SpellsPart Value) Anything
@@ -87,7 +44,7 @@ module _ {value : Read Init} {Value : Init → Language} (value_reads : IsReader
 
   -- behind the bracket that opens
   SpellsInside : Init → Language
-  SpellsInside list ts = (parts : List InitPart) × (WithCommas (SpellsPart Value) parts
+  SpellsInside list ts = (parts : List InitPart) × (SeparatedByCommas (SpellsPart Value) parts
       · (λ ts. (list ≡ init.List parts) × punctuation 93 ts)) ts
 
   inside_reads : IsReader (with_commas_at (part_at value) >>= λ parts. punctuation_at 93 >>= λ _. pure (init.List parts))
@@ -95,14 +52,15 @@ module _ {value : Read Init} {Value : Init → Language} (value_reads : IsReader
   unfolding SpellsInside
   inside_reads =
       followed (λ parts. punctuation_at 93 >>= λ _. pure (init.List parts))
-      (λ parts list ts. (list ≡ init.List parts) × punctuation 93 ts) Anything (with_commas_read part_reads)
+      (λ parts list ts. (list ≡ init.List parts) × punctuation 93 ts) Anything (with_commas_read part_reads (λ part t e. tt))
       (λ parts. stands_for (init.List parts) (sign_reads 93))
-      (λ parts list taken rest l stops. closes taken rest l.1)
+      (λ parts list taken rest l stops. subst (λ (taken : List Lexeme). StopsAt (StopLast Anything parts) (taken ++ rest))
+      (sym l.1) (closes parts))
     where
-      closes : (taken rest : List Lexeme) → punctuation 93 taken
-          → StopsAt (λ t. is_punctuation 44 t ≡ false) (taken ++ rest)
-      closes taken rest l = subst (λ (taken : List Lexeme). StopsAt (λ t. is_punctuation 44 t ≡ false) (taken ++ rest))
-          (sym l) refl
+      closes : (parts : List InitPart) → StopLast Anything parts (sign 93)
+      closes [] = refl
+      closes (part ∷ []) = (refl, tt)
+      closes (part ∷ next ∷ parts) = closes (next ∷ parts)
 
   pub list_reads : IsReader (list_at value) (SpellsList Value) Anything
   unfolding list_at SpellsInside

@@ -1,5 +1,5 @@
 -- How runs of words begin and end, and what goes on with them.
-use Rattle.std.proofs.Common.{◌≡◌, ℕ, Bool, true, false, ◌||◌, ◌&&◌, if◌then◌else◌, List, [], ◌∷◌, ◌++◌, ◌⊎◌, inl, inr, refl, sym, ap, subst, ◌∙◌, append_assoc}
+use Rattle.std.proofs.Common.{◌≡◌, ℕ, Bool, true, false, if◌then◌else◌, List, [], ◌∷◌, ◌++◌, ◌⊎◌, inl, inr, refl, ap, ◌∙◌}
 use Rattle.ir_text.specs.declared.token.TokenKind.{TokenKind}
 use Rattle.ir_text.specs.declared.token.TokenKind.TheVariants.{Metadata}
 use Rattle.ir_text.specs.Tokens.{Lexeme}
@@ -8,10 +8,10 @@ use Rattle.ir_text.specs.PassedOn.{IsPiece, ArePieces, is_quoted}
 use Rattle.ir_parts.specs.declared.ending.Ending.{Ending}
 use Rattle.ir_parts.specs.declared.ending.Ending.TheVariants.{Empty, Word, Placing, Placed, Quoted, Closed}
 use Rattle.ir_parts.specs.declared.ending.Run.{Run}
-use Rattle.ir_parts.specs.Reading.{begins, is_word_kind, is_punctuation}
+use Rattle.ir_parts.specs.Reading.{begins, is_word_kind}
 use Rattle.ir_parts.specs.MetadataReading.{is_metadata_word}
 use Rattle.ir_parts.specs.WordsReading.{is_numeral, begins_piece}
-use Rattle.ir_parts.specs.Runs.{is_placing, ending_of_word, ending_of_string, ending_of, ending_of_last, run_of, belongs_to, goes_on, SpellsRunText}
+use Rattle.ir_parts.specs.Runs.{is_placing, ending_of_word, ending_of_string, ending_of, ending_of_last, run_of, goes_on, SpellsRunText}
 use Rattle.ir_parts.proofs.Readers.{begins_still}
 use Rattle.ir_parts.proofs.RunReader.{piece_starts}
 use Rattle.ir_items.specs.TailReading.{is_empty_run}

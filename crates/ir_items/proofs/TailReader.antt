@@ -1,12 +1,12 @@
 -- What stands behind the initialiser of a global is read.
-use Rattle.std.proofs.Common.{◌≡◌, ℕ, zero, suc, ◌≤◌, Bool, true, false, List, [], ◌∷◌, ◌++◌, length, ◌⊎◌, inl, inr, refl, sym, ap, subst, ◌∙◌, append_assoc, arith}
+use Rattle.std.proofs.Common.{◌≡◌, ℕ, zero, suc, ◌≤◌, Bool, true, false, List, [], ◌∷◌, ◌++◌, length, inl, inr, refl, sym, ap, subst, ◌∙◌, append_assoc, arith}
 use Rattle.std.proofs.lemmas.List.{length-append}
 use Rattle.ir_text.specs.Tokens.{Lexeme}
 use Rattle.ir_text.specs.Listed.{sign, InSequence}
 use Rattle.ir_text.specs.Language.{Language, ◌·◌, nothing, comma}
 use Rattle.ir_text.specs.PassedOn.{attachments}
 use Rattle.ir_parts.specs.declared.ending.Run.{Run}
-use Rattle.ir_parts.specs.Reading.{Read, ◌>>=◌, pure, ◌▷◌, made, is_punctuation, punctuation_at, choose}
+use Rattle.ir_parts.specs.Reading.{Read, pure, ◌▷◌, made, is_punctuation, punctuation_at}
 use Rattle.ir_parts.specs.MetadataReading.{is_metadata_word}
 use Rattle.ir_parts.specs.WordsReading.{words_at}
 use Rattle.ir_parts.specs.Runs.{SpellsRunText}
@@ -16,7 +16,7 @@ use Rattle.ir_items.specs.declared.global_ending.Tail.{Tail}
 use Rattle.ir_items.specs.TailReading.{goes_on_global, Runs, with_run, attached_runs_at, more_runs_at, behind_comma_at, runs_most_at, runs_at, tail_of, tail_at}
 use Rattle.ir_items.proofs.Agreement.{Agree, shrinks, same_agree, then_agree, made_agree, behind_agree, chosen_agree, other_agree}
 use Rattle.ir_items.proofs.Bounded.{bounded_reads}
-use Rattle.ir_items.proofs.TailReaders.{StopRuns, SpellsBare, SpellsAttached, SpellsTail, SpellsMore, SpellsBehind, most_read}
+use Rattle.ir_items.proofs.TailReaders.{StopRuns, SpellsBare, SpellsAttached, SpellsTail, SpellsBehind, most_read}
 
 -- ---- how many runs may be read doesn't matter where there are at least as many as tokens
 

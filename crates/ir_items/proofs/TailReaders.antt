@@ -9,9 +9,8 @@ use Rattle.ir_text.specs.PassedOn.{IsMetadataWord, IsMetadataNumber, metadata_no
 use Rattle.ir_parts.specs.declared.ending.Ending.{Ending}
 use Rattle.ir_parts.specs.declared.ending.Ending.TheVariants.{Empty}
 use Rattle.ir_parts.specs.declared.ending.Run.{Run}
-use Rattle.ir_parts.specs.Reading.{Read, ◌>>=◌, pure, ◌▷◌, made, begins, is_punctuation, punctuation_at, choose}
-use Rattle.ir_parts.specs.MetadataReading.{is_metadata_word, attachments_at}
-use Rattle.ir_parts.specs.WordsReading.{words_at, begins_piece}
+use Rattle.ir_parts.specs.Reading.{Read, made, begins, is_punctuation}
+use Rattle.ir_parts.specs.MetadataReading.{is_metadata_word}
 use Rattle.ir_parts.specs.Runs.{goes_on, SpellsRunText}
 use Rattle.ir_parts.proofs.Readers.{StopsAt, IsReader, Anything, of_language, mapped, followed_until, refused_there}
 use Rattle.ir_parts.proofs.Combined.{pure_reads, behind_token, not_at_first}
@@ -22,7 +21,7 @@ use Rattle.ir_parts.proofs.MetadataReaders.{word_there, word_back, a_number, bar
 use Rattle.ir_items.specs.declared.global_ending.GlobalEnding.TheVariants.{Words}
 use Rattle.ir_items.specs.TailReading.{is_empty_run, goes_on_global, Runs, with_run, attached_runs_at, more_runs_at, behind_comma_at, runs_most_at, ending_of_runs}
 use Rattle.ir_items.proofs.ChosenUntil.{chosen_until}
-use Rattle.ir_items.proofs.RunEnds.{comma_stops_run, run_begins, BeginsSo, piece_first}
+use Rattle.ir_items.proofs.RunEnds.{comma_stops_run, run_begins, piece_first}
 
 -- ---- what stops
 

@@ -1,10 +1,10 @@
 -- Reading what stands behind the initialiser of a global: runs of words, each behind a comma, and attachments.
-use Rattle.std.specs.Prelude.{◌≡◌, ℕ, zero, suc, Bool, true, false, ◌||◌, ◌&&◌, List, [], ◌∷◌, length, map}
+use Rattle.std.specs.Prelude.{ℕ, zero, suc, Bool, true, false, ◌||◌, ◌&&◌, not, List, [], ◌∷◌, length, drop, map}
 use Rattle.ir_text.specs.Tokens.{Lexeme}
 use Rattle.ir_parts.specs.declared.ending.Ending.{Ending}
 use Rattle.ir_parts.specs.declared.ending.Ending.TheVariants.{Empty}
 use Rattle.ir_parts.specs.declared.ending.Run.{Run}
-use Rattle.ir_parts.specs.Reading.{Read, ◌>>=◌, pure, ◌▷◌, made, is_punctuation, punctuation_at, choose}
+use Rattle.ir_parts.specs.Reading.{Read, ◌>>=◌, pure, ◌▷◌, made, begins, is_punctuation, punctuation_at, choose}
 use Rattle.ir_parts.specs.MetadataReading.{is_metadata_word, bare_attachment_at, attachments_at}
 use Rattle.ir_parts.specs.WordsReading.{words_at}
 use Rattle.ir_parts.specs.Runs.{goes_on}
@@ -65,3 +65,16 @@ tail_of runs = record { after = map (λ run. run.1) runs.0; ending = ending_of_r
 
 unfoldable pub tail_at : Read Tail
 tail_at = made tail_of runs_at
+
+-- ---- as the code reads it
+
+-- whether a run stands next, behind a comma
+abbrev pub begins_run : List Lexeme → Bool
+begins_run ts = begins (is_punctuation 44) ts && not (begins is_metadata_word (drop 1 ts))
+
+unfoldable pub next_run_at : Read (Run × List ℕ)
+next_run_at = punctuation_at 44 ▷ words_at
+
+-- attachments, one at least
+unfoldable pub some_attached_at : Read (Unit {0})
+some_attached_at = punctuation_at 44 ▷ bare_attachment_at ▷ attachments_at

@@ -3,6 +3,7 @@
 #![tactic(auto)]
 
 mod dropped;
+mod global;
 mod global_ending;
 mod initialiser;
 mod layout;
@@ -10,6 +11,7 @@ mod lines;
 mod literal;
 
 pub use dropped::skip_metadata_item;
+pub use global::{ended_global, read_global};
 pub use global_ending::GlobalEnding;
 pub use ir_parts::{ItemFault, read_type, skip_metadata};
 pub use layout::layout_fault;
