@@ -9,3 +9,4 @@ pub mod CalleeReaders
 pub mod HeadReaders
 pub mod ArgumentLists
 pub mod CallTellers
+pub mod CallChains
