@@ -1,25 +1,20 @@
 -- What is read as a call is a call of the grammar with its attachments, or one that is dropped.
-use Rattle.std.proofs.Common.{◌≡◌, ℕ, Bool, true, false, ◌||◌, List, [], ◌∷◌, ◌++◌, map, Option, Some, None, inl, inr, refl, sym, ap, subst, ◌∙◌, append_assoc, codes}
+use Rattle.std.proofs.Common.{◌≡◌, ℕ, Bool, List, [], ◌∷◌, ◌++◌, map, Option, Some, None, refl, sym, ap, subst, ◌∙◌, append_assoc, codes}
 use Rattle.ir_model.specs.declared.types.IrType.{IrType}
 use Rattle.ir_model.specs.declared.op.TypedOperand.{TypedOperand}
 use Rattle.ir_model.specs.declared.op.Op.{Op}
 use Rattle.ir_model.specs.declared.op.Op.TheVariants.{Call}
 use Rattle.ir_text.specs.Tokens.{Lexeme}
-use Rattle.ir_text.specs.Listed.{word}
-use Rattle.ir_text.specs.Language.{Language, ◌·◌, one, keyword}
+use Rattle.ir_text.specs.Language.{Language, ◌·◌, one}
 use Rattle.ir_text.specs.Mentions.{Mention, Mentioning, ◌⊙◌, silent}
-use Rattle.ir_text.specs.Types.{IsReturned, SpellsTypeOf}
+use Rattle.ir_text.specs.Types.{IsReturned}
 use Rattle.ir_text.specs.Written.{IsGlobal}
-use Rattle.ir_text.specs.PassedOn.{SpellsWords, attachments, in_parentheses}
+use Rattle.ir_text.specs.PassedOn.{SpellsWords, attachments}
 use Rattle.ir_grammar.specs.Operations.{SpellsOp, SpellsTail, SpellsArgument, Listing, IsCallee, dropped_word, the_word, the_sign, the_type}
 use Rattle.ir_grammar.specs.Operations as grammar
-use Rattle.ir_grammar.specs.Functions.{IsDroppedCallee, dropped_call}
 use Rattle.ir_parts.specs.declared.ending.Ending.{Ending}
-use Rattle.ir_parts.specs.Reading.{begins}
-use Rattle.ir_parts.specs.Runs.{SpellsRunText}
 use Rattle.ir_parts.proofs.WordsReader.{text_of_words, words_of_text}
 use Rattle.ir_body.specs.declared.operation.Operation.{Operation}
-use Rattle.ir_body.specs.Opcodes.{begins_call}
 use Rattle.ir_body.proofs.Tellers.{first_as, then_as, joined, parted}
 use Rattle.ir_functions.specs.declared.arguments.Argument.{Argument}
 use Rattle.ir_functions.specs.declared.calls.CallHead.{CallHead}
@@ -27,12 +22,12 @@ use Rattle.ir_functions.specs.declared.calls.Callee.{Callee}
 use Rattle.ir_functions.specs.declared.calls.Callee.TheVariants.{Dropped, Named}
 use Rattle.ir_functions.specs.Calls.{tail_of, call_of}
 use Rattle.ir_functions.proofs.LineStarts.{IsCall}
-use Rattle.ir_functions.proofs.LineFacts.{SpellsWhole, ReadsCalls}
+use Rattle.ir_functions.proofs.LineFacts.{SpellsWhole}
 use Rattle.ir_functions.proofs.ArgumentTellers.{SpellsRead}
-use Rattle.ir_functions.proofs.ArgumentLists.{plain_argument, listing_there, AreReadAs, listing_back, SpellsArguments}
-use Rattle.ir_functions.proofs.CalleeReaders.{IsRead, named_read, named_reads, dropped_read, dropped_reads, dropped_never}
+use Rattle.ir_functions.proofs.ArgumentLists.{plain_argument, listing_there, listing_back, SpellsArguments}
+use Rattle.ir_functions.proofs.CalleeReaders.{IsRead, named_read, named_reads}
 use Rattle.ir_functions.proofs.HeadReaders.{SpellsHead}
-use Rattle.ir_functions.proofs.CallTellers.{Behind, SpellsTrailing, DroppedParts, CalledParts, Read, make_dropped, make_call, SpellsBehindCallee, WithCallee, SpellsCall, call_tells}
+use Rattle.ir_functions.proofs.CallTellers.{Behind, SpellsTrailing, CalledParts, Read, make_call, SpellsBehindCallee, SpellsCall}
 
 -- ---- parts in other groups
 
@@ -85,7 +80,7 @@ silent_parted : {A B : Language} (ms : List Mention) (ts : List Lexeme) → sile
     → (silent A ⊙ silent B) ms ts
 silent_parted ms ts l = ([], [], l.0, (l.1.0, l.1.1, l.1.2, (refl, l.1.3), (refl, l.1.4)))
 
-silent_joined : {A B : Language} (ms : List Mention) (ts : List Lexeme) → (silent A ⊙ silent B) ms ts
+pub silent_joined : {A B : Language} (ms : List Mention) (ts : List Lexeme) → (silent A ⊙ silent B) ms ts
     → silent (A · B) ms ts
 silent_joined ms ts l = (
   l.2 ∙ (ap (λ (first : List Mention). first ++ l.1) l.3.3.0 ∙ l.3.4.0),
@@ -96,7 +91,7 @@ silent_as : {A B : Language} → ((ts : List Lexeme) → A ts → B ts) → (ms 
     → silent A ms ts → silent B ms ts
 silent_as there ms ts l = (l.0, there ts l.1)
 
-one_as : {P Q : Lexeme → Type 0} → ((t : Lexeme) → P t → Q t) → (ts : List Lexeme) → one P ts → one Q ts
+pub one_as : {P Q : Lexeme → Type 0} → ((t : Lexeme) → P t → Q t) → (ts : List Lexeme) → one P ts → one Q ts
 one_as there ts l = (l.0, l.1, there l.0 l.2)
 
 -- ---- the head, part for part
@@ -127,16 +122,16 @@ head_as head {Y} {Z} there ms ts l = then_as (λ ms ts l. then_as (λ ms ts l. t
 abbrev WordsBehind : List ℕ → Mentioning
 WordsBehind after = silent (SpellsWords after) ⊙ silent attachments
 
-trailing_there : (p : Behind) (ts : List Lexeme) → SpellsTrailing p ts → (SpellsWords p.0.1 · attachments) ts
+pub trailing_there : (p : Behind) (ts : List Lexeme) → SpellsTrailing p ts → (SpellsWords p.0.1 · attachments) ts
 trailing_there p ts l = (l.0, l.1, l.2, text_of_words p.0.1 l.0 (p.0, refl, l.3), l.4.0)
 
 -- Words and attachments that are read.
-record BehindRead (after : List ℕ) (ts : List Lexeme) : Type 0 where
-  read : Behind
-  same : read.0.1 ≡ after
-  spelled : SpellsTrailing read ts
+pub record BehindRead (after : List ℕ) (ts : List Lexeme) : Type 0 where
+  pub read : Behind
+  pub same : read.0.1 ≡ after
+  pub spelled : SpellsTrailing read ts
 
-trailing_back : (after : List ℕ) (ts : List Lexeme) → (SpellsWords after · attachments) ts → BehindRead after ts
+pub trailing_back : (after : List ℕ) (ts : List Lexeme) → (SpellsWords after · attachments) ts → BehindRead after ts
 trailing_back after ts l =
     let said = words_of_text after l.0 l.3 in record {
       read = (said.0, (tt, l.1));

@@ -10,3 +10,4 @@ pub mod HeadReaders
 pub mod ArgumentLists
 pub mod CallTellers
 pub mod CallChains
+pub mod DroppedCalls
