@@ -16,3 +16,5 @@ pub mod HeadReaders
 pub mod ArgumentLists
 pub mod CallTellers
 pub mod ListingTellers
+pub mod CallChains
+pub mod DroppedCalls
