@@ -14,3 +14,4 @@ pub mod LinesTellers
 pub mod CalleeReaders
 pub mod HeadReaders
 pub mod ListingTellers
+pub mod BlockTellers
