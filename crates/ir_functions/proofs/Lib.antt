@@ -15,3 +15,4 @@ pub mod CalleeReaders
 pub mod HeadReaders
 pub mod ListingTellers
 pub mod BlockTellers
+pub mod ParamTellers
