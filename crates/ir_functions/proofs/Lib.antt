@@ -16,3 +16,4 @@ pub mod HeadReaders
 pub mod ListingTellers
 pub mod BlockTellers
 pub mod ParamTellers
+pub mod FunctionParts
