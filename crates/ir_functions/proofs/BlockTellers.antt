@@ -1,5 +1,5 @@
 -- Blocks are read: a label, or none, and lines.
-use Rattle.std.proofs.Common.{◌≡◌, ℕ, suc, Bool, true, false, if◌then◌else◌, List, [], ◌∷◌, ◌++◌, length, Option, Some, None, Err, ◌⊎◌, inl, inr, refl, sym, ap, subst, ◌∙◌, append_assoc, IsTrue, codes}
+use Rattle.std.proofs.Common.{◌≡◌, suc, Bool, true, false, List, [], ◌∷◌, ◌++◌, length, Option, Some, None, Err, ◌⊎◌, inl, inr, refl, sym, ap, subst, ◌∙◌, IsTrue, codes}
 use Rattle.std.specs.Option.{is_some}
 use Rattle.scev_base.specs.declared.ids.BlockId.{BlockId}
 use Rattle.ir_model.specs.declared.function.Instr.{Instr}
@@ -12,15 +12,15 @@ use Rattle.ir_text.specs.Language.{one}
 use Rattle.ir_text.specs.Written.{Name, Text, IsLabel}
 use Rattle.ir_text.specs.Said.{said_label}
 use Rattle.ir_text.specs.Mentions.{Mention, DefinesBlock, Mentioning, ◌⊙◌, defines_block, unwritten}
-use Rattle.ir_grammar.specs.Functions.{SpellsInstrs, SpellsBlock}
+use Rattle.ir_grammar.specs.Functions.{SpellsBlock}
 use Rattle.ir_parts.specs.declared.ending.Ending.{Ending}
 use Rattle.ir_parts.specs.Reading.{begins, is_punctuation, choose}
-use Rattle.ir_parts.proofs.Readers.{StopsAt, IsReader, Anything, of_language, of_reading, one_reads, chosen, refused_there}
+use Rattle.ir_parts.proofs.Readers.{IsReader, Anything, of_language, of_reading, one_reads, chosen, refused_there}
 use Rattle.ir_parts.proofs.Combined.{pure_reads}
 use Rattle.ir_parts.proofs.SaidNames.{label_there, label_back}
 use Rattle.ir_body.specs.declared.operation.Operation.{Operation}
 use Rattle.ir_body.specs.Telling.{Telling, ◌⊗◌}
-use Rattle.ir_body.proofs.Tellers.{IsTeller, IsMade, told_as, both, made_told, first_as}
+use Rattle.ir_body.proofs.Tellers.{IsTeller, IsMade, told_as, both, made_told}
 use Rattle.ir_functions.specs.declared.lines.Line.{Line}
 use Rattle.ir_functions.specs.Lines.{lines_at, instrs_of}
 use Rattle.ir_functions.specs.Functions.{told_label, label_at, no_label_at, is_label, block_name_at, block_at}

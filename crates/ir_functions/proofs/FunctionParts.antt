@@ -1,35 +1,32 @@
 -- The parts of a function are read: what stands before the parameters, what stands behind them, and the blocks.
-use Rattle.std.proofs.Common.{◌≡◌, ℕ, Bool, true, false, List, [], ◌∷◌, ◌++◌, Option, inl, inr, refl, sym, ap, subst, ◌∙◌, append_assoc, IsTrue, codes}
+use Rattle.std.proofs.Common.{◌≡◌, ℕ, Bool, true, false, List, [], ◌∷◌, ◌++◌, Option, inl, refl, sym, ap, subst, ◌∙◌, append_assoc, codes}
 use Rattle.std.proofs.lemmas.List.{append-nil}
 use Rattle.ir_model.specs.declared.types.IrType.{IrType}
-use Rattle.ir_model.specs.declared.types.IrType.TheVariants.{Void, Int, Ptr, Array}
 use Rattle.ir_model.specs.declared.function.Block.{Block}
 use Rattle.ir_text.specs.Bytes.{is_letter, begins_word}
 use Rattle.ir_text.specs.Names.{is_word}
 use Rattle.ir_text.specs.Tokens.{Lexeme}
-use Rattle.ir_text.specs.Listed.{sign, global, InSequence}
-use Rattle.ir_text.specs.Language.{Language, ◌·◌, one, punctuation}
+use Rattle.ir_text.specs.Listed.{global, InSequence}
+use Rattle.ir_text.specs.Language.{◌·◌, one, punctuation}
 use Rattle.ir_text.specs.Language.Many.{none, more}
 use Rattle.ir_text.specs.Written.{IsGlobal}
 use Rattle.ir_text.specs.Said.{said_global}
 use Rattle.ir_text.specs.Mentions.{Mention, Mentioning, ◌⊙◌, silent, InOrder}
-use Rattle.ir_text.specs.Types.{IsReturned, SpellsTypeOf}
+use Rattle.ir_text.specs.Types.{IsReturned}
 use Rattle.ir_text.specs.PassedOn.{metadata_pairs}
 use Rattle.ir_grammar.specs.Operations.{the_word, the_sign, the_type}
 use Rattle.ir_grammar.specs.Functions.{SpellsBlock}
 use Rattle.ir_parts.specs.declared.ending.Ending.{Ending}
 use Rattle.ir_parts.specs.declared.ending.Run.{Run}
 use Rattle.ir_parts.specs.Reading.{begins, is_punctuation, one_at}
-use Rattle.ir_parts.specs.MetadataReading.{is_metadata, pairs_at}
+use Rattle.ir_parts.specs.MetadataReading.{pairs_at}
 use Rattle.ir_parts.specs.Runs.{SpellsRunText, ends_run}
-use Rattle.ir_parts.specs.WordsReading.{words_at}
 use Rattle.ir_parts.proofs.Readers.{StopsAt, IsReader, Anything, one_reads}
 use Rattle.ir_parts.proofs.SingleTokens.{is_sign}
 use Rattle.ir_parts.proofs.TypeReaders.{returned_types}
 use Rattle.ir_parts.proofs.MetadataReaders.{pairs_read, NoMetadata}
 use Rattle.ir_parts.proofs.UpToReader.{up_to_reads}
 use Rattle.ir_parts.proofs.SaidNames.{global_there, global_back}
-use Rattle.ir_parts.proofs.RunReader.{StopsRun}
 use Rattle.ir_parts.proofs.RunEnds.{ended_by, type_ends, metadata_ends}
 use Rattle.ir_parts.proofs.WordsReader.{StopsWords, words_read}
 use Rattle.ir_body.specs.declared.operation.Operation.{Operation}
@@ -39,7 +36,7 @@ use Rattle.ir_body.proofs.Tellers.{IsTeller, Follows, silent_tells, told_as, eac
 use Rattle.ir_body.proofs.GatheredTellers.{Told, gathered_tells, in_order, from_order}
 use Rattle.ir_functions.specs.Functions.{block_at, blocks_at, signature_at, opening_at}
 use Rattle.ir_functions.proofs.LineFacts.{ReadsPlain, ReadsCalls}
-use Rattle.ir_functions.proofs.BlockTellers.{BeginsBlock, block_tells, block_begins}
+use Rattle.ir_functions.proofs.BlockTellers.{block_tells, block_begins}
 
 -- ---- before the parameters
 
@@ -118,6 +115,10 @@ opening_tells = told_as SpellsOpening
 abbrev pub SpellsBlocks : List Block → Mentioning
 SpellsBlocks blocks = InOrder SpellsBlock blocks ⊙ the_sign 125
 
+-- one block or more, and the `}`
+abbrev pub SpellsBody : Block × List Block → Mentioning
+SpellsBody p = SpellsBlock p.0 ⊙ SpellsBlocks p.1
+
 blocks_there : (ps : List (Block × List Mention)) (ts : List Lexeme)
     → (InSequence (Told SpellsBlock) ps · punctuation 125) ts → SpellsBlocks (gathered ps).0 (gathered ps).1 ts
 blocks_there ps ts l = (
@@ -181,10 +182,6 @@ module _ {Chain : Bool → Option Operation × Option Ending → List Mention �
       (l.3.2 ∙ (ap (λ (us : List Lexeme). us ++ l.3.1) first.3.2 ∙ append_assoc first.3.0 first.3.1 l.3.1))
       ∙ append_assoc first.3.0 (first.3.1 ++ l.3.1) rest))
       (next_ends block first.0 first.3.0 ((first.3.1 ++ l.3.1) ++ rest) first.3.3)
-
-  -- one block or more, and the `}`
-  abbrev pub SpellsBody : Block × List Block → Mentioning
-  SpellsBody p = SpellsBlock p.0 ⊙ SpellsBlocks p.1
 
   pub body_tells : IsTeller (block_at op_at ⊗ blocks_at op_at) SpellsBody Anything
   body_tells = both_told (block_tells op_at plain calls) blocks_tell

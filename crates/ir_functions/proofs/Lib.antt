@@ -17,3 +17,4 @@ pub mod ListingTellers
 pub mod BlockTellers
 pub mod ParamTellers
 pub mod FunctionParts
+pub mod FunctionTellers

@@ -19,19 +19,17 @@ use Rattle.ir_parts.specs.declared.ending.Run.{Run}
 use Rattle.ir_parts.specs.Reading.{Read, begins, is_punctuation, choose, pure, go_on}
 use Rattle.ir_parts.specs.Reading as reading
 use Rattle.ir_parts.specs.WordsReading.{words_at}
-use Rattle.ir_parts.specs.TypeReading.{scalar_type_at}
 use Rattle.ir_parts.specs.Runs.{goes_on, run_of, SpellsRunText}
 use Rattle.ir_parts.proofs.Readers.{StopsAt, IsReader, Anything, of_language, of_reading, of_sentence_stop, mapped, refused_there}
 use Rattle.ir_parts.proofs.Optional.{or_nothing}
-use Rattle.ir_parts.proofs.MaybeReader.{StopsBoth, maybe_reads}
+use Rattle.ir_parts.proofs.MaybeReader.{maybe_reads}
 use Rattle.ir_parts.proofs.SingleTokens.{is_sign}
 use Rattle.ir_parts.proofs.TypeReaders.{scalar_types}
-use Rattle.ir_parts.proofs.RunReader.{StopsRun}
 use Rattle.ir_parts.proofs.RunEnds.{ends_each}
 use Rattle.ir_parts.proofs.WordsReader.{StopsWords, words_read}
-use Rattle.ir_body.specs.Telling.{Telling, silently, ◌⊗◌}
-use Rattle.ir_body.proofs.Tellers.{IsTeller, IsMade, silent_tells, told_as, made_tells, both, then_as}
-use Rattle.ir_functions.specs.Lines.{defined_at, is_local}
+use Rattle.ir_body.specs.Telling.{silently, ◌⊗◌}
+use Rattle.ir_body.proofs.Tellers.{IsTeller, IsMade, silent_tells, made_tells, both, then_as}
+use Rattle.ir_functions.specs.Lines.{is_local}
 use Rattle.ir_functions.specs.Functions.{name_at, no_name_at, param_name_at, param_of, param_at, params_at}
 use Rattle.ir_functions.proofs.LineStarts.{is_local_there, is_local_back, local_ends}
 use Rattle.ir_functions.proofs.LineTellers.{SpellsDefined, defined_tells}
