@@ -84,9 +84,9 @@ no_longer : (ws : List (List ℕ)) (w : List ℕ) → length (without ws w) ≤ 
 no_longer [] w = omega arith
 no_longer (x ∷ xs) w = elim (bytes_eq x w) as (λ (b : Bool). length (if b then without xs w else x ∷ without xs w)
     ≤ suc (length xs)) [
-  | true ↦ omega (arith, no_longer xs w)
-  | false ↦ omega (arith, no_longer xs w)
-]
+      | true ↦ omega (arith, no_longer xs w)
+      | false ↦ omega (arith, no_longer xs w)
+    ]
 
 shorter : (ws : List (List ℕ)) (w : List ℕ) → is_among ws w ≡ true → length (without ws w) < length ws
 shorter [] w e = absurd cc
@@ -278,10 +278,10 @@ never_refuses most ws [] left e = absurd (let read = no_more most ws [] refl in 
 never_refuses zero ws (t ∷ ts) left e = absurd (let read = none_to_read ws (t ∷ ts) in cc)
 never_refuses (suc most) ws (t ∷ ts) left e = elim (either (is_open ws t)) [
   | inl passed ↦ elim (one_refused (words_at most (without ws t.text) ts) (λ found. pure (t.text ∷ found)) left
-    (sym (one_more most ws t ts passed) ∙ e)) [
-    | inl refused ↦ never_refuses most (without ws t.text) ts left refused
-    | inr b ↦ absurd (let none = b.second in cc)
-  ]
+      (sym (one_more most ws t ts passed) ∙ e)) [
+        | inl refused ↦ never_refuses most (without ws t.text) ts left refused
+        | inr b ↦ absurd (let none = b.second in cc)
+      ]
   | inr failed ↦ absurd (let read = no_more (suc most) ws (t ∷ ts) failed in cc)
 ]
 

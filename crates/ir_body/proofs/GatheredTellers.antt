@@ -6,10 +6,11 @@ use Rattle.ir_text.specs.Listed.{InSequence}
 use Rattle.ir_text.specs.Language.{Language, ◌·◌, comma}
 use Rattle.ir_text.specs.Mentions.{Mention, Mentioning, ◌⊙◌, InOrder, silent}
 use Rattle.ir_grammar.specs.Operations.{the_comma}
+use Rattle.ir_grammar.specs.Operations.{WithCommas}
 use Rattle.ir_parts.specs.Reading.{Read}
 use Rattle.ir_parts.proofs.Readers.{IsReader, of_language, mapped}
 use Rattle.ir_body.specs.Gathered.{gathered, gathering}
-use Rattle.ir_body.proofs.Tellers.{IsTeller}
+use Rattle.ir_body.proofs.Tellers.{IsTeller, then_as, assoc_there, assoc_back}
 
 -- what is gathered of a reading
 pub gathered_tells : {A : Type 0} {read : Read (List (A × List Mention))} {L : List (A × List Mention) → Language}
@@ -103,3 +104,21 @@ module _ {A : Type 0} (P : A → Mentioning) (B : Language) where
             ∙ found.1,
         (l.3.0, l.3.1, l.3.2, sequence_as (comma_back P) found.0 l.3.0 found.2, l.3.4.1),
       )
+
+module _ {A : Type 0} (P : A → Mentioning) where
+  -- things with commas between them: the first, and others each behind a comma
+  pub commas_there : (x : A) (xs : List A) (ms : List Mention) (ts : List Lexeme)
+      → (P x ⊙ InOrder (BehindComma P) xs) ms ts → WithCommas P (x ∷ xs) ms ts
+  commas_there x [] ms ts l =
+      subst (λ (ts : List Lexeme). P x ms ts)
+      (sym (l.3.2 ∙ (ap (λ (vs : List Lexeme). l.3.0 ++ vs) l.3.4.1 ∙ append-nil l.3.0)))
+      (subst (λ (ms : List Mention). P x ms l.3.0)
+      (sym (l.2 ∙ (ap (λ (behind : List Mention). l.0 ++ behind) l.3.4.0 ∙ append-nil l.0))) l.3.3)
+  commas_there x (y ∷ ys) ms ts l =
+      then_as (λ ms ts l. then_as (commas_there y ys) ms ts (assoc_there ms ts l)) ms ts l
+
+  pub commas_back : (x : A) (xs : List A) (ms : List Mention) (ts : List Lexeme)
+      → WithCommas P (x ∷ xs) ms ts → (P x ⊙ InOrder (BehindComma P) xs) ms ts
+  commas_back x [] ms ts l = (ms, [], sym (append-nil ms), (ts, [], sym (append-nil ts), l, (refl, refl)))
+  commas_back x (y ∷ ys) ms ts l =
+      then_as (λ ms ts l. assoc_back ms ts (then_as (commas_back y ys) ms ts l)) ms ts l

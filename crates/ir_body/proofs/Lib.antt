@@ -20,3 +20,5 @@ pub mod TypeFirst
 pub mod CaseTellers
 pub mod AlignedTellers
 pub mod ListTellers
+pub mod OpTellers
+pub mod PartStarts

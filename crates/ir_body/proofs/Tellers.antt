@@ -289,3 +289,57 @@ parted ms ts l =
         ([], l.1, refl, (both.1, l.3.1, refl, (refl, both.4), l.3.4)),
       ),
     )
+
+-- three parts
+pub assoc_there : {A B C : Mentioning} (ms : List Mention) (ts : List Lexeme) → ((A ⊙ B) ⊙ C) ms ts
+    → (A ⊙ (B ⊙ C)) ms ts
+assoc_there ms ts l =
+    let first = l.3.3 in (
+      first.0,
+      first.1 ++ l.1,
+      l.2 ∙ (ap (λ (before : List Mention). before ++ l.1) first.2 ∙ append_assoc first.0 first.1 l.1),
+      (
+        first.3.0,
+        first.3.1 ++ l.3.1,
+        l.3.2 ∙ (ap (λ (us : List Lexeme). us ++ l.3.1) first.3.2 ∙ append_assoc first.3.0 first.3.1 l.3.1),
+        first.3.3,
+        (first.1, l.1, refl, (first.3.1, l.3.1, refl, first.3.4, l.3.4)),
+      ),
+    )
+
+pub assoc_back : {A B C : Mentioning} (ms : List Mention) (ts : List Lexeme) → (A ⊙ (B ⊙ C)) ms ts
+    → ((A ⊙ B) ⊙ C) ms ts
+assoc_back ms ts l =
+    let second = l.3.4 in (
+      l.0 ++ second.0,
+      second.1,
+      l.2 ∙ (ap (λ (behind : List Mention). l.0 ++ behind) second.2 ∙ sym (append_assoc l.0 second.0 second.1)),
+      (
+        l.3.0 ++ second.3.0,
+        second.3.1,
+        l.3.2 ∙ (ap (λ (vs : List Lexeme). l.3.0 ++ vs) second.3.2 ∙ sym (append_assoc l.3.0 second.3.0 second.3.1)),
+        (l.0, second.0, refl, (l.3.0, second.3.0, refl, l.3.3, second.3.3)),
+        second.3.4,
+      ),
+    )
+
+-- what stands behind goes to the last part, and comes back from there
+pub pushed : {A B C D : Mentioning} → ((ms : List Mention) (ts : List Lexeme) → (B ⊙ C) ms ts → D ms ts)
+    → (ms : List Mention) (ts : List Lexeme) → ((A ⊙ B) ⊙ C) ms ts → (A ⊙ D) ms ts
+pushed there ms ts l = then_as there ms ts (assoc_there ms ts l)
+
+pub pulled : {A B C D : Mentioning} → ((ms : List Mention) (ts : List Lexeme) → D ms ts → (B ⊙ C) ms ts)
+    → (ms : List Mention) (ts : List Lexeme) → (A ⊙ D) ms ts → ((A ⊙ B) ⊙ C) ms ts
+pulled back ms ts l = assoc_back ms ts (then_as back ms ts l)
+
+-- two parts with no mentions
+pub silent_joined : {A B : Language} (ms : List Mention) (ts : List Lexeme) → (silent A ⊙ silent B) ms ts
+    → silent (A · B) ms ts
+silent_joined ms ts l = (
+  l.2 ∙ (ap (λ (before : List Mention). before ++ l.1) l.3.3.0 ∙ l.3.4.0),
+  (l.3.0, l.3.1, l.3.2, l.3.3.1, l.3.4.1),
+)
+
+pub silent_parted : {A B : Language} (ms : List Mention) (ts : List Lexeme) → silent (A · B) ms ts
+    → (silent A ⊙ silent B) ms ts
+silent_parted ms ts l = ([], [], l.0, (l.1.0, l.1.1, l.1.2, (refl, l.1.3), (refl, l.1.4)))

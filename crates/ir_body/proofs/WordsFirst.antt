@@ -100,8 +100,11 @@ module _ (t : Tokenized) (at : ℕ) (one other : List ℕ) (apart : bytes_eq one
       left : without (one ∷ other ∷ []) one ≡ other ∷ []
       left = rw (itself one, swapped one other apart) refl
 
-      values : (set : Bool) → ◌≡◌ {A = Bool × Bool} (is_among (one ∷ where_set set other) one, is_among
-          (one ∷ where_set set other) other) (true, set)
+      values : (set : Bool) → ◌≡◌ {A = Bool × Bool} (
+        is_among (one ∷ where_set set other) one,
+        is_among
+            (one ∷ where_set set other) other,
+      ) (true, set)
       values true = rw (itself one, apart, itself other) refl
       values false = rw (itself one, apart) refl
 
@@ -121,8 +124,11 @@ module _ (t : Tokenized) (at : ℕ) (one other : List ℕ) (apart : bytes_eq one
       left : without (one ∷ other ∷ []) other ≡ one ∷ []
       left = rw (apart, itself other) refl
 
-      values : (set : Bool) → ◌≡◌ {A = Bool × Bool} (is_among (other ∷ where_set set one) one, is_among
-          (other ∷ where_set set one) other) (set, true)
+      values : (set : Bool) → ◌≡◌ {A = Bool × Bool} (
+        is_among (other ∷ where_set set one) one,
+        is_among
+            (other ∷ where_set set one) other,
+      ) (set, true)
       values true = rw (swapped one other apart, itself one, itself other) refl
       values false = rw (swapped one other apart, itself other) refl
 

@@ -1,5 +1,11 @@
 -- The reading of any operation but a call, with the attachments behind it.
-use Rattle.std.specs.Prelude.{Bool}
+use Rattle.std.specs.Prelude.{Bool, IsTrue}
+use Rattle.ir_model.specs.declared.op.Op.{Op}
+use Rattle.ir_model.specs.declared.op.Op.TheVariants.{Call}
+use Rattle.ir_text.specs.Mentions.{Mentioning, ◌⊙◌, silent}
+use Rattle.ir_text.specs.PassedOn.{attachments}
+use Rattle.ir_grammar.specs.Operations.{SpellsOp}
+use Rattle.ir_grammar.specs.Functions.{MayHaveResult}
 use Rattle.ir_parts.specs.MetadataReading.{attachments_at}
 use Rattle.ir_body.specs.declared.opcode.Opcode.{Opcode}
 use Rattle.ir_body.specs.declared.opcode.Opcode.TheVariants.{Binary, Cast, Icmp, Select, Phi, Freeze, Alloca, Load, Store, Gep, Br, Switch, Ret, Unreachable}
@@ -36,3 +42,14 @@ behind_at Unreachable = attached unreachable_at
 -- behind a result one that may have a result
 unfoldable pub op_at : Bool → Telling Operation
 op_at has_result = silently (opcode_at has_result) >>= behind_at
+
+-- It is no call.
+abbrev pub IsNoCall : Op → Type 0
+IsNoCall (Call ret callee args) = ⊥
+IsNoCall op = Unit {0}
+
+-- An operation but a call, which may have a result where one stands before it, and the attachments behind it.
+abbrev pub SpellsAttached : Bool → Operation → Mentioning
+SpellsAttached has_result operation ms ts = IsNoCall operation.op
+    × (IsTrue has_result → MayHaveResult operation.op)
+    × (SpellsOp operation.op operation.words ⊙ silent attachments) ms ts

@@ -2,6 +2,7 @@
 //! functions. Each id in what is read is a position of a token.
 #![tactic(auto)]
 
+mod aligned;
 mod binary;
 mod branch;
 mod flags;
@@ -10,6 +11,7 @@ mod operands;
 mod operation;
 mod values;
 
+pub use aligned::{read_alloca, read_load, read_store};
 pub use binary::{read_binary, read_comparison, read_freeze};
 pub use branch::{read_br, read_ret};
 pub use flags::Flags;
