@@ -18,3 +18,8 @@ pub mod BlockTellers
 pub mod ParamTellers
 pub mod FunctionParts
 pub mod FunctionTellers
+pub mod ArgumentLists
+pub mod CallTellers
+pub mod CallChains
+pub mod DroppedCalls
+pub mod WholeFunctions
