@@ -13,8 +13,13 @@ pub mod UntilTellers
 pub mod LinesTellers
 pub mod CalleeReaders
 pub mod HeadReaders
+pub mod ListingTellers
+pub mod BlockTellers
+pub mod ParamTellers
+pub mod FunctionParts
+pub mod FunctionTellers
 pub mod ArgumentLists
 pub mod CallTellers
-pub mod ListingTellers
 pub mod CallChains
 pub mod DroppedCalls
+pub mod WholeFunctions

@@ -14,7 +14,8 @@ use Rattle.ir_text.specs.Names.{is_word}
 use Rattle.ir_text.specs.Tokens.{Lexeme}
 use Rattle.ir_text.specs.Listed.{word}
 use Rattle.ir_text.specs.Written.{Name, IsLocal}
-use Rattle.ir_text.specs.Said.{said_local}
+use Rattle.ir_text.specs.Said.{is_label_kind, said_local, said_label}
+use Rattle.ir_text.specs.PassedOn.{is_sign_kind}
 use Rattle.ir_text.specs.Mentions.{Mention, Mentioning, ◌⊙◌}
 use Rattle.ir_grammar.specs.Operations.{binary_text, cast_text, the_word, SpellsOp}
 use Rattle.ir_grammar.specs.Functions.{IsRecord}
@@ -31,22 +32,35 @@ use Rattle.ir_body.specs.Opcodes.{begins_call}
 use Rattle.ir_parts.proofs.SaidNames.{local_there, local_back}
 use Rattle.ir_functions.specs.Silent.{is_record, is_record_text, is_group_kind}
 use Rattle.ir_functions.specs.Lines.{is_local}
+use Rattle.ir_functions.specs.Functions.{is_label}
 
 -- ---- what begins a line
 
--- It is no comma, and no run of passed-on words goes on with it.
+-- It is no comma, and no run of passed-on words goes on with it; it is no label, and ends no function.
 pub record EndsLines (t : Lexeme) : Type 0 where
   pub no_comma : is_punctuation 44 t ≡ false
   pub no_words : (ending : Ending) → goes_on ending t ≡ false
+  pub no_label : is_label t ≡ false
+  pub no_end : is_punctuation 125 t ≡ false
 
--- what is no sign, no numeral and no piece
-ends_lines : (t : Lexeme) → begins_piece t ≡ false → is_punctuation 40 t ≡ false → is_numeral t ≡ false
-    → is_punctuation 61 t ≡ false → is_punctuation 44 t ≡ false → EndsLines t
-ends_lines t piece bracket number equals no_comma = record {
-  no_comma = no_comma;
+other_than_label : (t : Lexeme) → is_label_kind t.kind ≡ false → is_label t ≡ false
+unfolding said_label
+other_than_label t e = rw e refl
+
+-- what is no sign, no label, no numeral and no piece
+ends_lines : (t : Lexeme) → begins_piece t ≡ false → is_numeral t ≡ false → is_label_kind t.kind ≡ false
+    → ((b : ℕ) → is_sign_kind b t.kind ≡ false) → EndsLines t
+ends_lines t piece number label sign = record {
+  no_comma = no_sign 44;
   no_words = λ ending. neither_or (begins_piece t) (belongs_to ending t) piece
-      (belongs_to_none ending t bracket number equals);
+      (belongs_to_none ending t (no_sign 40) number (no_sign 61));
+  no_label = other_than_label t label;
+  no_end = no_sign 125;
 }
+  where
+    no_sign : (b : ℕ) → is_punctuation b t ≡ false
+    no_sign b = rw (sign b) refl
+
 
 -- ---- records
 
@@ -80,8 +94,8 @@ unfolding is_group_text
 no_group name e = word_no_number name e
 
 pub record_ends : (t : Lexeme) → IsRecord t → EndsLines t
-record_ends t is = ends_lines t (rw (is.0, is.2) (no_group is.1 is.3)) (rw is.0 refl) (rw is.0 refl) (rw is.0 refl)
-    (rw is.0 refl)
+record_ends t is = ends_lines t (rw (is.0, is.2) (no_group is.1 is.3)) (rw is.0 refl) (rw is.0 refl)
+    (λ b. rw is.0 refl)
 
 -- ---- names of values
 
@@ -97,7 +111,7 @@ pub is_local_back : (t : Lexeme) (name : Name) → IsLocal name t → is_local t
 is_local_back t name is = ap is_some (local_back name t is)
 
 pub local_ends : (t : Lexeme) (name : Name) → IsLocal name t → EndsLines t
-local_ends t name is = ends_lines t (rw is.0 refl) (rw is.0 refl) (rw is.0 refl) (rw is.0 refl) (rw is.0 refl)
+local_ends t name is = ends_lines t (rw is.0 refl) (rw is.0 refl) (rw is.0 refl) (λ b. rw is.0 refl)
 
 pub local_no_record : (t : Lexeme) (name : Name) → IsLocal name t → is_record t ≡ false
 local_no_record t name is = rw is.0 refl
@@ -105,7 +119,7 @@ local_no_record t name is = rw is.0 refl
 -- ---- words
 
 pub word_ends : (text : List ℕ) → is_passed_text text ≡ false → EndsLines (word text)
-word_ends text other = ends_lines (word text) (rw other refl) refl refl refl refl
+word_ends text other = ends_lines (word text) (rw other refl) refl refl (λ b. refl)
 
 pub word_no_record : (text : List ℕ) → is_record (word text) ≡ false
 word_no_record text = refl

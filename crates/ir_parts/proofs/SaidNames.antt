@@ -9,12 +9,12 @@ use Rattle.std.proofs.lemmas.Bool.{and_parts, leb-true, le-leb}
 use Rattle.std.proofs.lemmas.List.{take-append-drop, length-append}
 use Rattle.std.proofs.lemmas.Slice.Eq.{bytes_eq-Decides}
 use Rattle.ir_text.specs.declared.token.TokenKind.{TokenKind}
-use Rattle.ir_text.specs.declared.token.TokenKind.TheVariants.{Local, Global}
+use Rattle.ir_text.specs.declared.token.TokenKind.TheVariants.{Label, Local, Global}
 use Rattle.ir_text.specs.Bytes.{is_digit, is_letter, begins_word, is_no_quote}
 use Rattle.ir_text.specs.Names.{is_word, is_number}
 use Rattle.ir_text.specs.Tokens.{Lexeme}
-use Rattle.ir_text.specs.Written.{Name, Text, Number, unescaped, IsQuoted, Says, SaysGlobal, IsLocal, IsGlobal}
-use Rattle.ir_text.specs.Said.{inner_text, is_string_text, said, said_global_text, is_local_kind, is_global_kind, said_local, said_global}
+use Rattle.ir_text.specs.Written.{Name, Text, Number, unescaped, IsQuoted, Says, SaysGlobal, IsLocal, IsLabel, IsGlobal}
+use Rattle.ir_text.specs.Said.{inner_text, is_string_text, said, said_global_text, is_local_kind, is_label_kind, is_global_kind, said_local, said_label, said_global}
 use Rattle.ir_lex.proofs.BytesApart.{digit-no_word}
 
 -- ---- strings
@@ -222,3 +222,40 @@ global_there name t e =
 pub global_back : (name : List ℕ) (t : Lexeme) → IsGlobal name t → said_global t ≡ Some name
 unfolding said_global
 global_back name t is = rw (is.0, is.2) (global_is_said is.1 name is.3)
+
+-- ---- before a colon
+
+label_kind : (kind : TokenKind) → is_label_kind kind ≡ true → kind ≡ Label
+label_kind Label e = refl
+label_kind _ e = absurd cc
+
+pub label_there : (name : Name) (t : Lexeme) → said_label t ≡ Some name → IsLabel name t
+unfolding said_label
+label_there name t e =
+    let n : ℕ = length t.text - 1 in
+    let found = where_true (is_label_kind t.kind && bytes_eq (58 ∷ []) (drop n t.text)) (said (take n t.text)) name e in
+    let parts = and_parts (is_label_kind t.kind) (bytes_eq (58 ∷ []) (drop n t.text)) found.0 in
+    let colon : 58 ∷ [] ≡ drop n t.text = (bytes_eq-Decides (58 ∷ []) (drop n t.text)).0 parts.1 in (
+      label_kind t.kind parts.0,
+      take n t.text,
+      sym (take-append-drop n t.text) ∙ ap (λ (end : List ℕ). take n t.text ++ end) (sym colon),
+      says (take n t.text) name found.1,
+    )
+
+-- what stands before the colon
+before_colon : ℕ → List ℕ → Option Name
+before_colon n text = if bytes_eq (58 ∷ []) (drop n text) then said (take n text) else None
+
+label_said : (written : List ℕ) → before_colon (length (written ++ 58 ∷ []) - 1) (written ++ 58 ∷ []) ≡ said written
+unfolding before_colon
+label_said written =
+    let text : List ℕ = written ++ 58 ∷ [] in
+    let count : length text - 1 ≡ length written = omega (arith, length-append written (58 ∷ [])) in
+    ap (λ (n : ℕ). before_colon n text) count
+    ∙ (ap (λ (end : List ℕ). if bytes_eq (58 ∷ []) end then said (take (length written) text) else None)
+    (drop-append_seam written (58 ∷ []))
+    ∙ ap said (take-append_seam written (58 ∷ [])))
+
+pub label_back : (name : Name) (t : Lexeme) → IsLabel name t → said_label t ≡ Some name
+unfolding said_label before_colon
+label_back name t is = rw (is.0, is.2) (label_said is.1 ∙ is_said is.1 name is.3)
