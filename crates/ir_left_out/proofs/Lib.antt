@@ -1,4 +1,6 @@
 pub mod RunDepth
 pub mod CallPlace
+pub mod EndsIn
 pub mod CallFound
 pub mod ListedTexts
+pub mod TargetFound

@@ -9,10 +9,9 @@ use Rattle.ir_text.specs.Language.{Language, ◌·◌, keyword}
 use Rattle.ir_text.specs.PassedOn.{IsPassedOn}
 use Rattle.ir_text.specs.Said.{said_global}
 use Rattle.ir_text.specs.Types.{IsReturned, SpellsTypeOf}
-use Rattle.ir_text.specs.Written.{IsGlobal}
 use Rattle.ir_grammar.specs.Operations.{is_intrinsic}
 use Rattle.ir_grammar.specs.Spelled.{begun_call}
-use Rattle.ir_parts.specs.Reading.{Read, ◌>>=◌, pure, keyword_at}
+use Rattle.ir_parts.specs.Reading.{Read, ◌>>=◌, pure, keyword_at, begins}
 use Rattle.ir_parts.specs.TypeReading.{returned_type_at}
 use Rattle.ir_parts.specs.WordsReading.{run_at}
 
@@ -30,9 +29,9 @@ is_intrinsic_token t = names_intrinsic (said_global t)
 abbrev pub EndsCall : List Lexeme → Type 0
 EndsCall before = (front call : List Lexeme) × (before ≡ front ++ call) × begun_call call
 
--- Behind them stands such a global.
-abbrev pub IsIntrinsicCallee : List Lexeme → Lexeme → Type 0
-IsIntrinsicCallee before t = EndsCall before × ((name : List ℕ) × IsGlobal name t × (is_intrinsic name ≡ true))
+-- They do, and behind them stands such a global.
+abbrev pub CallsIntrinsic : List Lexeme → List Lexeme → Type 0
+CallsIntrinsic before behind = EndsCall before × (begins is_intrinsic_token behind ≡ true)
 
 -- ---- how it is read
 

@@ -1,0 +1,88 @@
+-- Whether tokens end with what stands before a data layout, and what stands between quotes.
+use Rattle.std.proofs.Common.{◌≡◌, ℕ, zero, suc, ◌+◌, ◌-◌, ◌<◌, ◌≤◌, List, [], ◌∷◌, ◌++◌, length, take, Option, Some, None, Ok, refl, sym, ap, ◌∙◌, arith, codes}
+use Rattle.std.specs.Prelude.{IfSome}
+use Rattle.std.proofs.lemmas.List.{length-append, length-take-le, length-map}
+use Rattle.ir_text.specs.Tokens.{Lexeme}
+use Rattle.ir_text.specs.Listed.{word, sign}
+use Rattle.ir_text.specs.Language.{◌·◌, keyword, punctuation}
+use Rattle.ir_lex.specs.Tokenized.{Tokenized, lexemes, lexeme_of}
+use Rattle.ir_grammar.specs.Layout.{IsLayoutFault}
+use Rattle.ir_grammar.specs.Layout.IsLayoutFault.{here, later}
+use Rattle.ir_parts.specs.Reading.{left_from}
+use Rattle.ir_parts.proofs.Readers.{IsReader, Anything, of_language}
+use Rattle.ir_parts.proofs.Combined.{behind_token}
+use Rattle.ir_parts.proofs.SingleTokens.{keyword_reads, sign_reads}
+use Rattle.ir_left_out.specs.Layouts.{EndsTarget, IsQuotedFault, Finds, target_at}
+use Rattle.ir_left_out.proofs.EndsIn.{ends_there, ends_back}
+
+-- ---- what stands before it
+
+abbrev target_tokens : List Lexeme
+target_tokens = word (codes "target") ∷ word (codes "datalayout") ∷ sign 61 ∷ []
+
+target_reads : IsReader target_at (λ (x : Unit {0}) ts. ts ≡ target_tokens) Anything
+unfolding target_at
+target_reads = of_language (λ (x : Unit {0}) ts. ts ≡ target_tokens) there back
+    (behind_token (keyword_reads (codes "target"))
+    (behind_token (keyword_reads (codes "datalayout")) (sign_reads 61)))
+  where
+    there : (x : Unit {0}) (ts : List Lexeme)
+        → (keyword (codes "target") · keyword (codes "datalayout") · punctuation 61) ts → ts ≡ target_tokens
+    there x ts (us, vs, parts, is, (ws, zs, seam, also, last)) = rw (parts, is, seam, also, last) refl
+
+    back : (x : Unit {0}) (ts : List Lexeme) → ts ≡ target_tokens
+        → (keyword (codes "target") · keyword (codes "datalayout") · punctuation 61) ts
+    back x ts e = (
+      word (codes "target") ∷ [],
+      word (codes "datalayout") ∷ sign 61 ∷ [],
+      e,
+      refl,
+      (word (codes "datalayout") ∷ [], sign 61 ∷ [], refl, refl, refl),
+    )
+
+pub target_there : (t : Tokenized) (from at : ℕ) → target_at (left_from t from) ≡ Ok (tt, left_from t at)
+    → EndsTarget (take at (lexemes t))
+target_there t from at e =
+    let ends = ends_there target_reads t from at e in
+    (ends.0, ends.2 ∙ ap (λ (us : List Lexeme). ends.0 ++ us) ends.3)
+
+-- It stands three tokens before the place.
+pub target_length : (t : Tokenized) (at : ℕ) → at ≤ length t.tokens → (ends : EndsTarget (take at (lexemes t)))
+    → at ≡ 3 + length ends.0
+target_length t at within ends =
+    omega (
+      arith,
+      ap length ends.1,
+      length-append ends.0 target_tokens,
+      length-take-le at (lexemes t) (omega (arith, length-map t.tokens (lexeme_of t.bytes))),
+      length-map t.tokens (lexeme_of t.bytes),
+    )
+
+pub target_back : (t : Tokenized) (at : ℕ) → at ≤ length t.tokens → (ends : EndsTarget (take at (lexemes t)))
+    → target_at (left_from t (at - 3)) ≡ Ok (tt, left_from t at)
+target_back t at within ends =
+    let long = target_length t at within ends in
+    let place : at - 3 ≡ length ends.0 = omega arith in
+    ap (λ (n : ℕ). target_at (left_from t n)) place
+    ∙ ends_back target_reads t at (ends.0, target_tokens, ends.1, refl)
+
+-- ---- what stands between quotes
+
+-- What is left out begins within the text.
+pub fault_within : (text : List ℕ) (number at : ℕ) → IsLayoutFault text number at → at ≤ length text
+fault_within text number at (here spec rest parts plain end out) = omega arith
+fault_within text number at (later {at = behind} spec rest parts plain fine fault) =
+    let within = fault_within rest number behind fault in
+    omega (arith, ap length parts, length-append spec (45 ∷ rest))
+
+pub same_end : (us vs : List ℕ) (b c : ℕ) → us ++ b ∷ [] ≡ vs ++ c ∷ [] → (us ≡ vs) × (b ≡ c)
+same_end [] [] b c e = (refl, cc)
+same_end [] (v ∷ vs) b c e = absurd (omega (arith, ap length e, length-append vs (c ∷ [])))
+same_end (u ∷ us) [] b c e = absurd (omega (arith, ap length e, length-append us (b ∷ [])))
+same_end (u ∷ us) (v ∷ vs) b c e =
+    let rest : us ++ b ∷ [] ≡ vs ++ c ∷ [] = cc in
+    let same = same_end us vs b c rest in
+    let first : u ≡ v = cc in (rw (first, same.0) refl, same.1)
+
+pub same_inner : (inner other : List ℕ) → 34 ∷ (inner ++ 34 ∷ []) ≡ 34 ∷ (other ++ 34 ∷ []) → inner ≡ other
+same_inner inner other e = let rest : inner ++ 34 ∷ [] ≡ other ++ 34 ∷ [] = cc in (same_end inner other 34 34 rest).0
