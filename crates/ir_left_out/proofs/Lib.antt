@@ -4,3 +4,4 @@ pub mod EndsIn
 pub mod CallFound
 pub mod ListedTexts
 pub mod TargetFound
+pub mod NamedParts

@@ -1,7 +1,7 @@
 -- Whether tokens end with what stands before a data layout, and what stands between quotes.
 use Rattle.std.proofs.Common.{◌≡◌, ℕ, zero, suc, ◌+◌, ◌-◌, ◌<◌, ◌≤◌, List, [], ◌∷◌, ◌++◌, length, take, Option, Some, None, Ok, refl, sym, ap, ◌∙◌, arith, codes}
-use Rattle.std.specs.Prelude.{IfSome}
 use Rattle.std.proofs.lemmas.List.{length-append, length-take-le, length-map}
+use Rattle.ir_text.specs.declared.token.TokenKind.TheVariants.{Quoted}
 use Rattle.ir_text.specs.Tokens.{Lexeme}
 use Rattle.ir_text.specs.Listed.{word, sign}
 use Rattle.ir_text.specs.Language.{◌·◌, keyword, punctuation}
@@ -12,7 +12,7 @@ use Rattle.ir_parts.specs.Reading.{left_from}
 use Rattle.ir_parts.proofs.Readers.{IsReader, Anything, of_language}
 use Rattle.ir_parts.proofs.Combined.{behind_token}
 use Rattle.ir_parts.proofs.SingleTokens.{keyword_reads, sign_reads}
-use Rattle.ir_left_out.specs.Layouts.{EndsTarget, IsQuotedFault, Finds, target_at}
+use Rattle.ir_left_out.specs.Layouts.{EndsTarget, IsQuotedFault, IsFaultyLayout, Finds, target_at}
 use Rattle.ir_left_out.proofs.EndsIn.{ends_there, ends_back}
 
 -- ---- what stands before it
@@ -86,3 +86,14 @@ same_end (u ∷ us) (v ∷ vs) b c e =
 
 pub same_inner : (inner other : List ℕ) → 34 ∷ (inner ++ 34 ∷ []) ≡ 34 ∷ (other ++ 34 ∷ []) → inner ≡ other
 same_inner inner other e = let rest : inner ++ 34 ∷ [] ≡ other ++ 34 ∷ [] = cc in (same_end inner other 34 34 rest).0
+
+pub faulty : (before : List Lexeme) (t : Lexeme) (found : Option (ℕ × ℕ)) → EndsTarget before → t.kind ≡ Quoted
+    → Finds (IsQuotedFault t.text) found → Finds (IsFaultyLayout before t) found
+faulty before t None ends kind none = λ number behind l. none number behind l.2
+faulty before t (Some fault) ends kind l = (ends, kind, l)
+
+pub no_target : (before : List Lexeme) (t : Lexeme) → (EndsTarget before → ⊥) → Finds (IsFaultyLayout before t) None
+no_target before t other = λ number behind l. other l.0
+
+pub not_quoted : (before : List Lexeme) (t : Lexeme) → (t.kind ≡ Quoted → ⊥) → Finds (IsFaultyLayout before t) None
+not_quoted before t other = λ number behind l. other l.1

@@ -1,6 +1,6 @@
 //! Data layouts with what is left out.
 
-ghost use Rattle.std.specs.Prelude.{◌≡◌, ◌↔◌, ◌<◌, ◌≤◌, List, [], ◌∷◌, ◌++◌, ℕ, IsTrue, IfOk, IfSome, MatchOption, length, take};
+ghost use Rattle.std.specs.Prelude.{◌≡◌, ◌↔◌, ◌^◌, ◌<◌, ◌≤◌, List, [], ◌∷◌, ◌++◌, ℕ, IsTrue, IfOk, IfSome, MatchOption, length, take};
 ghost use Rattle.ir_lex.specs.Tokenized.{lexemes};
 ghost use Rattle.ir_parts.specs.Reading.{left_from, Passes};
 ghost use Rattle.ir_left_out.specs.Layouts.{EndsTarget, IsQuotedFault, IsFaultyLayout, Finds, target_at};
@@ -8,37 +8,44 @@ ghost use Rattle.ir_left_out.specs.Layouts.{EndsTarget, IsQuotedFault, IsFaultyL
 use ir_items::layout_fault;
 use ir_lex::{TokenKind, Tokens};
 use ir_parts::{ItemFault, behind_keyword, behind_sign};
+use std::alloc::AllocError;
 
-/// The number of what is left out in a data layout, where the token behind a place is one, and how far behind the
-/// token's first byte it begins.
+/// The number of what is left out in a data layout, where the token at a place is one, and how far behind the token's
+/// first byte it begins.
 pub(crate) fn faulty_layout(
     tokens: &Tokens<'_>,
     at: usize,
     kind: TokenKind,
     text: &[u8],
-) -> Option<(u16, usize)>
-    requires { at ≤ length tokens.now.tokens }
-    ensures value { Finds (IsFaultyLayout (take at (lexemes tokens.now)) (record { kind = kind; text = text.now })) result }
-    ensures within { IfSome result (λ fault. fault.1 < length text.now) }
+) -> Result<Option<(u16, usize)>, AllocError>
+    requires place { at ≤ length tokens.now.tokens }
+    requires fits { length text.now < 2 ^ 64 }
+    ensures value { IfOk result (λ found.
+        Finds (IsFaultyLayout (take at (lexemes tokens.now)) (record { kind = kind; text = text.now })) found) }
+    ensures within { IfOk result (λ found. IfSome found (λ fault. fault.1 < length text.now)) }
 {
-    if kind == TokenKind::Quoted && ends_target(tokens, at) {
-        quoted_fault(text)
+    if kind != TokenKind::Quoted {
+        return Ok(None);
+    }
+    if ends_target(tokens, at)? {
+        Ok(quoted_fault(text))
     } else {
-        None
+        Ok(None)
     }
 }
 
 /// Whether the tokens before a place end with `target datalayout =`.
-fn ends_target(tokens: &Tokens<'_>, at: usize) -> bool
+fn ends_target(tokens: &Tokens<'_>, at: usize) -> Result<bool, AllocError>
     requires { at ≤ length tokens.now.tokens }
-    ensures { IsTrue result ↔ EndsTarget (take at (lexemes tokens.now)) }
+    ensures { IfOk result (λ ends. IsTrue ends ↔ EndsTarget (take at (lexemes tokens.now))) }
 {
     if at < 3 {
-        return false;
+        return Ok(false);
     }
     match behind_target(tokens, at - 3) {
-        Ok(behind) => behind == at,
-        Err(_) => false,
+        Ok(behind) => Ok(behind == at),
+        Err(ItemFault::CannotGoOn { .. }) => Ok(false),
+        Err(ItemFault::OutOfMemory) => Err(AllocError),
     }
 }
 
@@ -56,6 +63,7 @@ fn behind_target(tokens: &Tokens<'_>, from: usize) -> Result<usize, ItemFault>
 
 /// What is left out between the quotes of a text.
 fn quoted_fault(text: &[u8]) -> Option<(u16, usize)>
+    requires { length text.now < 2 ^ 64 }
     ensures value { Finds (IsQuotedFault text.now) result }
     ensures within { IfSome result (λ fault. fault.1 < length text.now) }
 {

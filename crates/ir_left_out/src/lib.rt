@@ -49,7 +49,7 @@ pub fn left_out(
     if let Some(number) = number_of(kind, text) {
         return Ok(Some((number, from)));
     }
-    if let Some((number, behind)) = faulty_layout(tokens, at, kind, text) {
+    if let Some((number, behind)) = faulty_layout(tokens, at, kind, text)? {
         return Ok(Some((number, from + behind)));
     }
     if is_intrinsic_callee(alloc, tokens, at)? {
