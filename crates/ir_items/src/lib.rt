@@ -3,8 +3,8 @@
 #![tactic(auto)]
 
 mod initialiser;
-mod literal;
 mod layout;
+mod literal;
 
 pub use ir_parts::{ItemFault, read_type, skip_metadata};
 pub use layout::layout_fault;

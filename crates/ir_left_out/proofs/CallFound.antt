@@ -27,13 +27,16 @@ use Rattle.ir_left_out.proofs.EndsIn.{ends_back}
 
 -- ---- beginnings of calls
 
+-- a type that is returned
 abbrev Returned : List Lexeme → Type 0
 Returned ts = (ret : IrType) × SpellsTypeOf IsReturned ret ts
 
+-- It is read, and nothing is said of it.
 type_reads : IsReader (returned_type_at >>= λ ret. pure tt) (λ (x : Unit {0}). Returned) Anything
 type_reads = of_language (λ (x : Unit {0}). Returned) (λ x ts l. (l.0, l.2)) (λ x ts l. (l.0, refl, l.1))
     (mapped (λ ret. tt) Anything (λ x t s. tt) (λ x t s. tt) returned_types)
 
+-- The beginning of a call is read.
 pub begun_reads : IsReader begun_call_at (λ (x : Unit {0}). begun_call) Anything
 unfolding begun_call_at
 begun_reads = of_language (λ (x : Unit {0}). begun_call) there back
@@ -56,6 +59,7 @@ abbrev pub IsLastCall : Tokenized → ℕ → ℕ → Type 0
 IsLastCall t at place = (front rest : List Lexeme) → take at (lexemes t) ≡ front ++ word (codes "call") ∷ rest
     → depth_before rest ≡ Some 0 → place ≡ length front
 
+-- Where the tokens before a place end with a call's beginning, it is read from its place up to this one.
 pub ends_read : (t : Tokenized) (at place : ℕ) → IsLastCall t at place → EndsCall (take at (lexemes t))
     → begun_call_at (left_from t place) ≡ Ok (tt, left_from t at)
 ends_read t at place last ends =
@@ -66,6 +70,7 @@ ends_read t at place last ends =
 
 -- ---- globals whose names begin `llvm.`
 
+-- what was given, and what wasn't
 given_is : {A : Type 0} (o : Option A) (rest after : List Lexeme) (left : ℕ) (x : A)
     → given o rest left ≡ Ok (x, after) → o ≡ Some x
 given_is {A} (Some y) rest after left x e =
@@ -76,6 +81,7 @@ none_given : {A : Type 0} (o : Option A) (rest : List Lexeme) (left some : ℕ) 
 none_given (Some y) rest left some e = absurd cc
 none_given None rest left some e = refl
 
+-- A name that was read is that of the first token.
 pub name_read : (ts after : List Lexeme) (name : List ℕ) → one_at said_global ts ≡ Ok (name, after)
     → is_intrinsic name ≡ begins is_intrinsic_token ts
 unfolding one_at
@@ -83,15 +89,18 @@ name_read [] after name e = absurd cc
 name_read (t ∷ ts) after name e =
     sym (ap names_intrinsic (given_is (said_global t) ts after (suc (length ts)) name e))
 
+-- Where none was read, the first token is no such global.
 pub no_name_read : (ts : List Lexeme) (left : ℕ) → one_at said_global ts ≡ Err left
     → false ≡ begins is_intrinsic_token ts
 unfolding one_at
 no_name_read [] left e = refl
 no_name_read (t ∷ ts) left e = sym (ap names_intrinsic (none_given (said_global t) ts (suc (length ts)) left e))
 
+-- a global whose name begins `llvm.`
 abbrev pub NamesIntrinsic : Lexeme → Type 0
 NamesIntrinsic t = (name : List ℕ) × IsGlobal name t × (is_intrinsic name ≡ true)
 
+-- The test says so.
 pub intrinsic_there : (t : Lexeme) → is_intrinsic_token t ≡ true → NamesIntrinsic t
 intrinsic_there t e = decide (said_global t) refl e
   where
@@ -99,5 +108,6 @@ intrinsic_there t e = decide (said_global t) refl e
     decide (Some name) is e = (name, global_there name t is, e)
     decide None is e = absurd cc
 
+-- It passes at every such token.
 pub intrinsic_back : (t : Lexeme) → NamesIntrinsic t → is_intrinsic_token t ≡ true
 intrinsic_back t (name, is, e) = ap names_intrinsic (global_back name t is) ∙ e

@@ -1,5 +1,5 @@
 -- Reading a language from a place on tells whether the tokens before another place end with one of its sentences.
-use Rattle.std.proofs.Common.{◌≡◌, ℕ, ◌≤◌, List, ◌∷◌, ◌++◌, length, take, drop, Result, Ok, refl, sym, ap, ◌∙◌, append_assoc, arith}
+use Rattle.std.proofs.Common.{◌≡◌, ℕ, ◌≤◌, List, ◌++◌, length, take, drop, Result, Ok, refl, sym, ap, ◌∙◌, append_assoc, arith}
 use Rattle.std.proofs.lemmas.List.{take-append-drop, drop_at}
 use Rattle.ir_text.specs.Tokens.{Lexeme}
 use Rattle.ir_lex.specs.Tokenized.{Tokenized, lexemes}
@@ -16,6 +16,7 @@ before_parts ts taken from at parts =
     ∙ (ap (λ (rest : List Lexeme). take from ts ++ rest) parts ∙ sym (append_assoc (take from ts) taken (drop at ts)))))
     refl).0
 
+-- and from where the last of them begin they are the first that are left
 behind_parts : (ts front call : List Lexeme) (at : ℕ) → take at ts ≡ front ++ call
     → drop (length front) ts ≡ call ++ drop at ts
 behind_parts ts front call at parts =
@@ -29,12 +30,14 @@ abbrev pub EndsIn : (List Lexeme → Type 0) → List Lexeme → Type 0
 EndsIn L before = (front us : List Lexeme) × (before ≡ front ++ us) × L us
 
 module _ {read : Read (Unit {0})} {L : List Lexeme → Type 0} (r : IsReader read (λ (x : Unit {0}). L) Anything) where
+  -- Where the reading came to a place, the tokens before it end with a sentence.
   pub ends_there : (t : Tokenized) (from at : ℕ) → read (left_from t from) ≡ Ok (tt, left_from t at)
       → EndsIn L (take at (lexemes t))
   ends_there t from at e =
       let found = r.takes (left_from t from) (left_from t at) tt e in
       (take from (lexemes t), found.taken, before_parts (lexemes t) found.taken from at found.parts, found.spelled)
 
+  -- Where they do, the reading comes to the place from where the sentence begins.
   pub ends_back : (t : Tokenized) (at : ℕ) (ends : EndsIn L (take at (lexemes t)))
       → read (left_from t (length ends.0)) ≡ Ok (tt, left_from t at)
   ends_back t at (front, us, parts, l) =

@@ -1,9 +1,9 @@
 -- The three ways in which a token is left out by name.
-use Rattle.std.proofs.Common.{◌≡◌, ◌≢◌, ℕ, zero, suc, ◌+◌, true, List, [], ◌∷◌, map, take, drop, Option, Some, None, ◌⊎◌, inl, inr, refl, sym, ap, subst, ◌∙◌}
+use Rattle.std.proofs.Common.{◌≡◌, ℕ, zero, suc, ◌+◌, List, [], ◌∷◌, map, take, drop, Some, inl, inr, refl, sym, ap, subst, ◌∙◌}
 use Rattle.std.specs.Prelude.{slice_get}
 use Rattle.std.proofs.lemmas.Option.{same_Some}
 use Rattle.ir_text.specs.declared.token.Token.{Token}
-use Rattle.ir_text.specs.Tokens.{Lexeme, Placed}
+use Rattle.ir_text.specs.Tokens.{Placed}
 use Rattle.ir_lex.specs.Tokenized.{Tokenized, lexeme_of, lexemes, placed_of, placed}
 use Rattle.ir_grammar.specs.Spelled.{IsLeftOutToken, IsLeftOut}
 use Rattle.ir_parts.specs.Reading.{left_from, begins}
@@ -21,16 +21,19 @@ first_left bytes (t ∷ tokens) zero token e =
     ap (λ (p : Placed). p.lexeme ∷ map (lexeme_of bytes) tokens) (same_Some (placed_of bytes t) token e)
 first_left bytes (t ∷ tokens) (suc at) token e = first_left bytes tokens at token e
 
+-- so the test of the first is its test
 begins_there : (t : Tokenized) (at : ℕ) (token : Placed) → slice_get (placed t) at ≡ Some token
     → begins is_intrinsic_token (left_from t at) ≡ is_intrinsic_token token.lexeme
 begins_there t at token is = ap (begins is_intrinsic_token) (first_left t.bytes t.tokens at token is)
 
 -- ---- each of the three
 
+-- A token of the list is left out at its first byte.
 pub named_token : (t : Tokenized) (at number : ℕ) (token : Placed) → slice_get (placed t) at ≡ Some token
     → IsLeftOutToken token.lexeme number → IsLeftOutAt t at number token.from
 named_token t at number token is l = (token, is, inl (l, refl))
 
+-- A data layout is left out where the specification begins.
 pub named_layout : (t : Tokenized) (at number behind : ℕ) (token : Placed) → slice_get (placed t) at ≡ Some token
     → IsFaultyLayout (take at (lexemes t)) token.lexeme number behind → IsLeftOutAt t at number (token.from + behind)
 named_layout t at number behind token is (ends, kind, (inner, text, offset, fault, place)) = (
@@ -39,6 +42,7 @@ named_layout t at number behind token is (ends, kind, (inner, text, offset, faul
   inr (inl (ends.0, ends.1, kind, inner, text, offset, fault, ap (λ (n : ℕ). token.from + n) place)),
 )
 
+-- The callee of a call whose name begins `llvm.` is left out at its first byte.
 pub named_callee : (t : Tokenized) (at : ℕ) (token : Placed) → slice_get (placed t) at ≡ Some token
     → CallsIntrinsic (take at (lexemes t)) (left_from t at) → IsLeftOutAt t at 6 token.from
 named_callee t at token is l =
@@ -47,6 +51,7 @@ named_callee t at token is l =
 
 -- ---- none of them
 
+-- What is none of the three is left out under no number.
 pub not_named : (t : Tokenized) (at : ℕ) (token : Placed) → slice_get (placed t) at ≡ Some token
     → ((number : ℕ) → IsLeftOutToken token.lexeme number → ⊥)
     → ((number behind : ℕ) → IsFaultyLayout (take at (lexemes t)) token.lexeme number behind → ⊥)

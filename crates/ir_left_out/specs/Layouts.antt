@@ -11,7 +11,7 @@ abbrev pub EndsTarget : List Lexeme → Type 0
 EndsTarget before = (front : List Lexeme)
     × (before ≡ front ++ word (codes "target") ∷ word (codes "datalayout") ∷ sign 61 ∷ [])
 
--- Between the quotes of the text this is left out, and it begins so many bytes behind the first quote's place.
+-- Between the quotes of the text this is left out, and it begins so many bytes behind the first quote's own place.
 abbrev pub IsQuotedFault : List ℕ → ℕ → ℕ → Type 0
 IsQuotedFault text number behind = (inner : List ℕ) × (text ≡ 34 ∷ (inner ++ 34 ∷ [])) × (offset : ℕ)
     × IsLayoutFault inner number offset × (behind ≡ 1 + offset)
@@ -24,6 +24,7 @@ IsFaultyLayout before t number behind = EndsTarget before × (t.kind ≡ Quoted)
 abbrev pub Finds : (ℕ → ℕ → Type 0) → Option (ℕ × ℕ) → Type 0
 Finds Is found = MatchOption found ((number behind : ℕ) → Is number behind → ⊥) (λ fault. Is fault.0 fault.1)
 
+-- `target datalayout =`
 unfoldable pub target_at : Read (Unit {0})
 target_at = do
   _ ← keyword_at (codes "target")

@@ -1,5 +1,5 @@
-//! Which refusals are of a part of LLVM IR that is left out by name: of a word or a sign of the list, of a specification
-//! in a data layout, or of an intrinsic function that is called.
+//! Which refusals are of a part of LLVM IR that is left out by name: of a word or a sign of the list, of a
+//! specification in a data layout, or of an intrinsic function that is called.
 //!
 //! A text is refused at one of its tokens. `left_out` looks at this token, and at those before it where it is a string
 //! or a global.

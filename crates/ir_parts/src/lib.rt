@@ -29,9 +29,9 @@ pub use global_names::read_global_name;
 pub use literals::{numeral, word_operand};
 pub use metadata::{skip_metadata, skip_pairs, starts_part};
 pub use names::{is_global, is_local};
-pub use passed_words::{left_out_place, place_among};
 pub use numbers::{are_digits, small_number};
 pub use passed_text::text_between;
+pub use passed_words::{left_out_place, place_among};
 pub use read_types::{
     read_int_type, read_returned_type, read_scalar_type, read_stored_type, read_type,
 };

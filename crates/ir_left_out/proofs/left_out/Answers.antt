@@ -1,5 +1,3 @@
-use Rattle.std.proofs.Common.{◌≡◌, true, false, sym, ◌∙◌}
-use Rattle.ir_text.specs.Tokens.{Placed}
 use Rattle.ir_left_out.proofs.NamedParts.{named_callee, not_named}
 use Rattle.ir_left_out.proofs.left_out.Goals as goal
 

@@ -1,4 +1,4 @@
-use Rattle.std.proofs.Common.{◌≡◌, ℕ, Ok, ap, sym, ◌∙◌}
+use Rattle.std.proofs.Common.{ℕ, Ok, ap, sym, ◌∙◌}
 use Rattle.std.proofs.lemmas.Bool.{eqb-true, eq-eqb}
 use Rattle.ir_parts.specs.Reading.{left_from}
 use Rattle.ir_left_out.proofs.EndsIn.{ends_there, same_place}
