@@ -1,8 +1,7 @@
 -- Texts of the list of what is left out, by their places in its parts.
-use Rattle.std.proofs.Common.{◌≡◌, ◌≢◌, ℕ, zero, suc, ◌+◌, ◌<◌, ◌≤◌, Bool, true, false, List, [], ◌∷◌, length, Option, Some, None, ◌⊎◌, refl, sym, ap, ◌∙◌, arith}
+use Rattle.std.proofs.Common.{◌≡◌, ℕ, zero, suc, ◌+◌, ◌<◌, Bool, true, false, List, [], length, Option, Some, None, ◌⊎◌, get_or, ltb, not, refl, ap, ◌∙◌, arith}
 use Rattle.std.specs.Prelude.{position, slice_get, cond, MatchOption}
 use Rattle.std.specs.List.{position_or_len}
-use Rattle.std.proofs.Common.{get_or, ltb, not}
 use Rattle.std.specs.Str.{bytes_eq}
 use Rattle.std.proofs.lemmas.List.Quantifiers.{position-Some}
 use Rattle.std.proofs.lemmas.List.Sums.{fails_before_first, prefix_len-le-length}
@@ -18,6 +17,7 @@ use Rattle.ir_left_out.specs.Named.{IsLeftOutText, NumbersText, NumbersToken, fi
 abbrev is_text : List ℕ → List ℕ → Bool
 is_text text each = bytes_eq each text
 
+-- The place that is found is that of the text.
 listed_there : (texts : List (List ℕ)) (text : List ℕ) (place : ℕ) → position (is_text text) texts ≡ Some place
     → slice_get texts place ≡ Some text
 listed_there texts text place e =
@@ -26,9 +26,9 @@ listed_there texts text place e =
 
 -- ---- none of them
 
-none_passes : (p : List ℕ → Bool) (texts : List (List ℕ)) (n : ℕ) → position_or_len p texts ≡ n
-    → position p texts ≡ None → position_or_len p texts ≡ length texts
-none_passes p texts n is e = decide (ltb (position_or_len p texts) (length texts)) refl
+-- where no place is found, all of them were passed by
+none_passes : (p : List ℕ → Bool) (texts : List (List ℕ)) → position p texts ≡ None → position_or_len p texts ≡ length texts
+none_passes p texts e = decide (ltb (position_or_len p texts) (length texts)) refl
   where
     decide : (b : Bool) → ltb (position_or_len p texts) (length texts) ≡ b → position_or_len p texts ≡ length texts
     decide false fails =
@@ -38,11 +38,12 @@ none_passes p texts n is e = decide (ltb (position_or_len p texts) (length texts
         let found : position p texts ≡ Some (position_or_len p texts) =
         ap (λ (b : Bool). cond b (Some (position_or_len p texts)) None) passes in absurd cc
 
+-- Where no place is found, the text is at none.
 listed_nowhere : (texts : List (List ℕ)) (text : List ℕ) (place : ℕ) → position (is_text text) texts ≡ None
     → slice_get texts place ≡ Some text → ⊥
 listed_nowhere texts text place e is =
     let all : position_or_len (is_text text) texts ≡ length texts =
-    none_passes (is_text text) texts (position_or_len (is_text text) texts) refl e in
+    none_passes (is_text text) texts e in
     let within : place < length texts = slice_get_within texts place text is in
     let fails : bytes_eq (get_or texts place []) text ≡ false =
     fails_before_first (is_text text) texts place [] (omega arith) in
@@ -51,6 +52,7 @@ listed_nowhere texts text place e is =
 
 -- ---- the parts of the list
 
+-- The place among the first texts is the number.
 pub first_there : (text : List ℕ) (number : ℕ) → position (is_text text) first_texts ≡ Some number
     → IsLeftOutText text number
 first_there text number e = among_first number (listed_there first_texts text number e)
@@ -58,12 +60,13 @@ first_there text number e = among_first number (listed_there first_texts text nu
     among_first : (number : ℕ) → slice_get first_texts number ≡ Some text → IsLeftOutText text number
     among_first zero is = (is, λ e. absurd (omega arith), λ e. absurd (omega arith), λ e. absurd (omega arith))
     among_first (suc zero) is = (is, λ e. absurd (omega arith), λ e. absurd (omega arith), λ e. absurd (omega arith))
-    among_first (suc (suc zero)) is = (is, λ e. absurd (omega arith), λ e. absurd (omega arith), λ e. absurd (omega arith))
+    among_first (suc (suc zero)) is =
+        (is, λ e. absurd (omega arith), λ e. absurd (omega arith), λ e. absurd (omega arith))
     among_first (suc (suc (suc zero))) is =
         (is, λ e. absurd (omega arith), λ e. absurd (omega arith), λ e. absurd (omega arith))
     among_first (suc (suc (suc (suc n)))) is = absurd cc
 
--- one of the words
+-- The number of a word of the list is 7 more than its place among the words.
 pub word_there : (text : List ℕ) (place number : ℕ) → position (is_text text) left_out_words ≡ Some place
     → number ≡ 7 + place → IsLeftOutText text number
 word_there text place number e is =
@@ -75,6 +78,7 @@ word_there text place number e is =
       λ e. absurd (omega arith),
     )
 
+-- A text that is neither among the first texts nor among the words has no number.
 pub nowhere : (text : List ℕ) → position (is_text text) first_texts ≡ None
     → position (is_text text) left_out_words ≡ None → (number : ℕ) → IsLeftOutText text number → ⊥
 nowhere text first words zero l = listed_nowhere first_texts text 0 first l.0
@@ -89,6 +93,7 @@ nowhere text first words (suc (suc (suc (suc (suc (suc (suc place))))))) l =
 
 -- ---- what was found
 
+-- What is found among the words, where the text isn't among the first ones, is its number.
 pub of_words : (text : List ℕ) (found : Option ℕ) → position (is_text text) first_texts ≡ None
     → MatchOption found (position (is_text text) left_out_words ≡ None)
     (λ number. (place : ℕ) × (position (is_text text) left_out_words ≡ Some place) × (number ≡ 7 + place))
@@ -100,6 +105,7 @@ of_words text (Some number) first (place, e, is) = word_there text place number 
 abbrev pub IsListedKind : TokenKind → Type 0
 IsListedKind kind = (kind ≡ Word) ⊎ ((b : ℕ) × (kind ≡ Sign b)) ⊎ (kind ≡ Dots)
 
+-- A token of a listed kind has the number of its text.
 pub of_text : (kind : TokenKind) (text : List ℕ) (found : Option ℕ) → IsListedKind kind → NumbersText text found
     → NumbersToken (record { kind = kind; text = text }) found
 of_text kind text None is none = λ number l. none number (l.1, l.2, l.3, l.4)

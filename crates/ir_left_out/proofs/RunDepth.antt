@@ -1,5 +1,5 @@
 -- Passed-on words and the type behind them leave all brackets that they enter, and have no `call` outside.
-use Rattle.std.proofs.Common.{◌≡◌, ℕ, suc, ◌+◌, Bool, true, false, ◌||◌, ◌==◌, List, [], ◌∷◌, ◌++◌, Option, Some, None, ◌⊎◌, inl, inr, refl, sym, ap, ◌∙◌, append_assoc, add-one, arith, codes}
+use Rattle.std.proofs.Common.{◌≡◌, ℕ, suc, Bool, true, false, ◌||◌, ◌==◌, List, [], ◌∷◌, ◌++◌, Some, inl, inr, refl, ap, ◌∙◌, append_assoc, add-one, arith, codes}
 use Rattle.std.specs.Option.{option_and_then}
 use Rattle.std.specs.Str.{bytes_eq}
 use Rattle.std.proofs.lemmas.Bool.{eqb-true}
@@ -14,7 +14,7 @@ use Rattle.ir_text.specs.Types.{IsReturned, SpellsTypeOf}
 use Rattle.ir_text.specs.PassedOn.{opening_words, is_among, IsPassedWord, Closes, is_bracket, IsBalanced, in_parentheses, IsPiece, ArePieces}
 use Rattle.ir_text.specs.PassedOn.IsBalanced.{none, plain, nested}
 use Rattle.ir_grammar.specs.Spelled.{begun_call}
-use Rattle.ir_left_out.specs.Begun.{is_opening, is_closing, deeper_by_sign, deeper, depth_before}
+use Rattle.ir_left_out.specs.Begun.{deeper_by_sign, deeper, depth_before}
 
 -- ---- one more token
 
@@ -22,17 +22,20 @@ use Rattle.ir_left_out.specs.Begun.{is_opening, is_closing, deeper_by_sign, deep
 abbrev Keeps : ℕ → Lexeme → Type 0
 Keeps depth t = deeper t.kind t.text depth ≡ Some depth
 
+-- one more token, by how deep the place behind it stands
 one_more : (t : Lexeme) (ts : List Lexeme) (depth before : ℕ) → depth_before ts ≡ Some depth
     → deeper t.kind t.text depth ≡ Some before → depth_before (t ∷ ts) ≡ Some before
 one_more t ts depth before e step = ap (option_and_then (λ depth. deeper t.kind t.text depth)) e ∙ step
 
 -- ---- brackets
 
+-- what is none of six is none of three of them, and none of the other three
 no_bracket : (a b c d e f : Bool) → (((((a || b) || c) || d) || e) || f) ≡ false
     → ((b || (d || f)) ≡ false) × ((a || (c || e)) ≡ false)
 no_bracket false false false false false false unlike = (refl, refl)
 no_bracket _ _ _ _ _ _ unlike = absurd cc
 
+-- inside some bracket
 no_zero : (depth : ℕ) → (suc depth == 0) ≡ false
 no_zero depth = decide (suc depth == 0) refl
   where
@@ -40,15 +43,19 @@ no_zero depth = decide (suc depth == 0) refl
     decide false e = e
     decide true e = let same = eqb-true (suc depth) 0 e in absurd (omega arith)
 
+-- Inside brackets every word stands as deep as what is behind it.
 inside_word : (text : List ℕ) (depth : ℕ) → deeper Word text (suc depth) ≡ Some (suc depth)
 unfolding deeper
 inside_word text depth = rw (no_zero depth) refl
 
+-- so does a sign that is no bracket, anywhere
 plain_sign : (b depth : ℕ) → is_bracket (Sign b) ≡ false → deeper_by_sign b depth ≡ Some depth
 unfolding deeper_by_sign
 plain_sign b depth unlike =
-    let parts = no_bracket (b == 40) (b == 41) (b == 91) (b == 93) (b == 123) (b == 125) unlike in rw (parts.0, parts.1) refl
+    let parts = no_bracket (b == 40) (b == 41) (b == 91) (b == 93) (b == 123) (b == 125) unlike in
+    rw (parts.0, parts.1) refl
 
+-- and every token that is no bracket, inside brackets
 plain_inside : (kind : TokenKind) (text : List ℕ) (depth : ℕ) → is_bracket kind ≡ false
     → deeper kind text (suc depth) ≡ Some (suc depth)
 unfolding deeper
@@ -56,6 +63,7 @@ plain_inside Word text depth unlike = inside_word text depth
 plain_inside (Sign b) text depth unlike = plain_sign b (suc depth) unlike
 plain_inside _ text depth unlike = refl
 
+-- An opening bracket is one bracket less, seen from its end, and a closing one is one more.
 opens : (opening closing depth : ℕ) → Closes opening closing → deeper_by_sign opening (suc depth) ≡ Some depth
 unfolding deeper_by_sign
 opens opening closing depth (inl l) = rw l.0 refl
@@ -68,6 +76,7 @@ closes opening closing depth (inl l) = rw (l.1, add-one depth) refl
 closes opening closing depth (inr (inl l)) = rw (l.1, add-one depth) refl
 closes opening closing depth (inr (inr l)) = rw (l.1, add-one depth) refl
 
+-- the same of the tokens that begin with it
 opening_token : (opening closing : ℕ) (ts : List Lexeme) (depth : ℕ) → Closes opening closing
     → depth_before ts ≡ Some (suc depth) → depth_before (sign opening ∷ ts) ≡ Some depth
 unfolding deeper
@@ -80,11 +89,13 @@ unfolding deeper
 closing_token opening closing ts depth pair e =
     one_more (sign closing) ts depth (suc depth) e (closes opening closing depth pair)
 
+-- Tokens whose brackets match stand, inside brackets, as deep as what is behind them.
 balanced : (us : List Lexeme) → IsBalanced us → (ts : List Lexeme) (depth : ℕ) → depth_before ts ≡ Some (suc depth)
     → depth_before (us ++ ts) ≡ Some (suc depth)
 balanced us none ts depth e = e
 balanced us (plain {t = t} {ts = vs} unlike inside) ts depth e =
-    one_more t (vs ++ ts) (suc depth) (suc depth) (balanced vs inside ts depth e) (plain_inside t.kind t.text depth unlike)
+    one_more t (vs ++ ts) (suc depth) (suc depth) (balanced vs inside ts depth e)
+    (plain_inside t.kind t.text depth unlike)
 balanced us (nested opening closing inner rest parts pair inside others) ts depth e =
     let behind : depth_before (sign closing ∷ (rest ++ ts)) ≡ Some (suc (suc depth)) =
     closing_token opening closing (rest ++ ts) (suc depth) pair (balanced rest others ts depth e) in
@@ -93,9 +104,11 @@ balanced us (nested opening closing inner rest parts pair inside others) ts dept
     ∙ opening_token opening closing (inner ++ (sign closing ∷ (rest ++ ts))) (suc depth) pair
     (balanced inner inside (sign closing ∷ (rest ++ ts)) (suc depth) behind))
 
+-- `(` and `)`
 round : Closes 40 41
 round = inl (refl, refl)
 
+-- Such tokens within parentheses do so outside brackets too.
 parenthesised : (us : List Lexeme) → in_parentheses us → (ts : List Lexeme) → depth_before ts ≡ Some 0
     → depth_before (us ++ ts) ≡ Some 0
 parenthesised us (first, others, parts, opening, (inner, last, seam, inside, closing)) ts e =
@@ -107,10 +120,12 @@ parenthesised us (first, others, parts, opening, (inner, last, seam, inside, clo
 
 -- ---- pieces
 
+-- outside brackets a word that isn't `call`
 no_call : (text : List ℕ) → bytes_eq text (codes "call") ≡ false → deeper Word text 0 ≡ Some 0
 unfolding deeper
 no_call text other = rw other refl
 
+-- The word `call` begins an instruction, so it isn't passed on.
 passed_is_no_call : (text : List ℕ) → IsPassedWord text → bytes_eq text (codes "call") ≡ false
 passed_is_no_call text is = decide (bytes_eq text (codes "call")) refl
   where
@@ -125,9 +140,11 @@ passed_is_no_call text is = decide (bytes_eq text (codes "call")) refl
         let unlike : is_among opening_words text ≡ false = is.no_opening in
         absurd cc
 
+-- what pieces are made of, outside brackets
 passed_keeps : (t : Lexeme) → t.kind ≡ Word → IsPassedWord t.text → Keeps 0 t
 passed_keeps t kind is = rw kind (no_call t.text (passed_is_no_call t.text is))
 
+-- one more such token
 keeps : (t : Lexeme) (ts : List Lexeme) → Keeps 0 t → depth_before ts ≡ Some 0 → depth_before (t ∷ ts) ≡ Some 0
 keeps t ts step e = one_more t ts 0 0 e step
 
@@ -147,6 +164,7 @@ equals_keeps : Keeps 0 (sign 61)
 unfolding deeper deeper_by_sign
 equals_keeps = refl
 
+-- A piece of a run leaves the place before it outside brackets.
 piece : (us : List Lexeme) → IsPiece us → (ts : List Lexeme) → depth_before ts ≡ Some 0
     → depth_before (us ++ ts) ≡ Some 0
 piece us (inl l) ts e = rw l.1 (keeps l.0 ts (passed_keeps l.0 l.2.0 l.2.1) e)
@@ -164,6 +182,7 @@ piece us (inr (inr (inr (inr (inl (first, others, parts, l, (next, last, seam, e
     (keeps (sign 61) (m.0 ∷ ts) equals_keeps (keeps m.0 ts (quoted_keeps m.0 m.2.0) e)))
 piece us (inr (inr (inr (inr (inr l))))) ts e = rw l.1 (keeps l.0 ts (group_keeps l.0 l.2.0) e)
 
+-- and so do all of them, one after another
 run : (pieces : List (List Lexeme)) (us : List Lexeme) → ArePieces pieces us → (ts : List Lexeme)
     → depth_before ts ≡ Some 0 → depth_before (us ++ ts) ≡ Some 0
 run [] us l ts e = rw l e
@@ -173,9 +192,11 @@ run (next ∷ pieces) us (first, others, parts, (same, is), l) ts e =
 
 -- ---- types
 
+-- `iN` is another word
 int_is_no_call : (text digits : List ℕ) → text ≡ 105 ∷ digits → bytes_eq text (codes "call") ≡ false
 int_is_no_call text digits e = rw e refl
 
+-- A type that is returned is one word.
 returned_type : (ret : IrType) (ts : List Lexeme) → SpellsTypeOf IsReturned ret ts → depth_before ts ≡ Some 0
 returned_type Void ts l = rw l.1 (keeps (word (codes "void")) [] (no_call (codes "void") refl) refl)
 returned_type Ptr ts l = rw l.1 (keeps (word (codes "ptr")) [] (no_call (codes "ptr") refl) refl)
@@ -185,7 +206,7 @@ returned_type _ ts l = absurd l.0
 
 -- ---- the whole
 
--- Behind its `call` a beginning of a call stands in brackets nowhere at its end.
+-- The place behind its `call` stands outside brackets, seen from the end of a call's beginning.
 pub begun : (ts : List Lexeme) → begun_call ts
     → (rest : List Lexeme) × (ts ≡ word (codes "call") ∷ rest) × (depth_before rest ≡ Some 0)
 begun ts (first, others, parts, is, (words, kind, seam, passed, ret)) = (

@@ -5,24 +5,21 @@ use Rattle.std.specs.Str.{bytes_eq}
 use Rattle.ir_text.specs.declared.token.TokenKind.{TokenKind}
 use Rattle.ir_text.specs.declared.token.TokenKind.TheVariants.{Word, Sign}
 use Rattle.ir_text.specs.Tokens.{Lexeme}
-use Rattle.ir_text.specs.Language.{Language, ◌·◌, keyword}
-use Rattle.ir_text.specs.PassedOn.{IsPassedOn}
 use Rattle.ir_text.specs.Said.{said_global}
-use Rattle.ir_text.specs.Types.{IsReturned, SpellsTypeOf}
-use Rattle.ir_text.specs.Written.{IsGlobal}
 use Rattle.ir_grammar.specs.Operations.{is_intrinsic}
 use Rattle.ir_grammar.specs.Spelled.{begun_call}
-use Rattle.ir_parts.specs.Reading.{Read, ◌>>=◌, pure, keyword_at}
+use Rattle.ir_parts.specs.Reading.{Read, ◌>>=◌, pure, keyword_at, begins}
 use Rattle.ir_parts.specs.TypeReading.{returned_type_at}
 use Rattle.ir_parts.specs.WordsReading.{run_at}
 
 -- ---- what is found
 
--- a global whose name begins `llvm.`
+-- whether the name of a global begins `llvm.`
 abbrev pub names_intrinsic : Option (List ℕ) → Bool
 names_intrinsic None = false
 names_intrinsic (Some name) = is_intrinsic name
 
+-- a token that is one
 abbrev pub is_intrinsic_token : Lexeme → Bool
 is_intrinsic_token t = names_intrinsic (said_global t)
 
@@ -30,12 +27,13 @@ is_intrinsic_token t = names_intrinsic (said_global t)
 abbrev pub EndsCall : List Lexeme → Type 0
 EndsCall before = (front call : List Lexeme) × (before ≡ front ++ call) × begun_call call
 
--- Behind them stands such a global.
-abbrev pub IsIntrinsicCallee : List Lexeme → Lexeme → Type 0
-IsIntrinsicCallee before t = EndsCall before × ((name : List ℕ) × IsGlobal name t × (is_intrinsic name ≡ true))
+-- They do, and behind them stands such a global.
+abbrev pub CallsIntrinsic : List Lexeme → List Lexeme → Type 0
+CallsIntrinsic before behind = EndsCall before × (begins is_intrinsic_token behind ≡ true)
 
 -- ---- how it is read
 
+-- the beginning of a call
 unfoldable pub begun_call_at : Read (Unit {0})
 begun_call_at = do
   _ ← keyword_at (codes "call")
@@ -45,6 +43,7 @@ begun_call_at = do
 
 -- ---- where it begins
 
+-- the signs of brackets
 abbrev pub is_opening : ℕ → Bool
 is_opening b = (b == 40) || ((b == 91) || (b == 123))
 
@@ -56,6 +55,7 @@ abbrev pub out_of : ℕ → Option ℕ
 out_of zero = None
 out_of (suc depth) = Some depth
 
+-- How deep a place stands before a sign.
 unfoldable pub deeper_by_sign : ℕ → ℕ → Option ℕ
 deeper_by_sign b depth = if is_closing b then Some (depth + 1) else (if is_opening b then out_of depth else Some depth)
 

@@ -11,14 +11,17 @@ IsLeftOutAt t at number place = (token : Placed) × (slice_get (placed t) at ≡
 
 -- the number of a token of the list, where it is one
 abbrev pub NumbersToken : Lexeme → Option ℕ → Type 0
-NumbersToken t found = MatchOption found ((number : ℕ) → IsLeftOutToken t number → ⊥) (λ number. IsLeftOutToken t number)
+NumbersToken t found =
+    MatchOption found ((number : ℕ) → IsLeftOutToken t number → ⊥) (λ number. IsLeftOutToken t number)
 
--- the same of a text alone
+-- A text has this number in the list, and isn't of those that are no tokens.
 abbrev pub IsLeftOutText : List ℕ → ℕ → Type 0
 IsLeftOutText text number = (slice_get left_out number ≡ Some text) × (number ≢ 4) × (number ≢ 5) × (number ≢ 6)
 
+-- the number of a text, where it has one
 abbrev pub NumbersText : List ℕ → Option ℕ → Type 0
-NumbersText text found = MatchOption found ((number : ℕ) → IsLeftOutText text number → ⊥) (λ number. IsLeftOutText text number)
+NumbersText text found =
+    MatchOption found ((number : ℕ) → IsLeftOutText text number → ⊥) (λ number. IsLeftOutText text number)
 
 -- the texts before those that are no tokens
 abbrev pub first_texts : List (List ℕ)

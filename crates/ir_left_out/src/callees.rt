@@ -3,19 +3,31 @@
 ghost use Rattle.std.specs.Prelude.{◌≡◌, ◌↔◌, ◌<◌, ◌≤◌, IsTrue, IfOk, length, take};
 ghost use Rattle.ir_lex.specs.Tokenized.{lexemes};
 ghost use Rattle.ir_parts.specs.Reading.{left_from, begins, Passes};
-ghost use Rattle.ir_left_out.specs.Begun.{is_intrinsic_token, EndsCall, begun_call_at};
+ghost use Rattle.ir_left_out.specs.Begun.{is_intrinsic_token, EndsCall, CallsIntrinsic, begun_call_at};
 
 use crate::begun::last_call;
 use ir_lex::Tokens;
 use ir_parts::{ItemFault, behind_keyword, read_global_name, read_returned_type, run};
 use std::alloc::{AllocError, Global};
 
-/// Whether a token at a place is a global whose name begins `llvm.`.
-pub(crate) fn is_intrinsic(
+/// Whether the token at a place is the callee of a call, and its name begins `llvm.`.
+pub(crate) fn is_intrinsic_callee(
     alloc: Global,
     tokens: &Tokens<'_>,
     at: usize,
 ) -> Result<bool, AllocError>
+    requires { at < length tokens.now.tokens }
+    ensures { IfOk result (λ is. IsTrue is ↔ CallsIntrinsic (take at (lexemes tokens.now)) (left_from tokens.now at)) }
+{
+    if is_intrinsic(alloc, tokens, at)? {
+        ends_call(alloc, tokens, at)
+    } else {
+        Ok(false)
+    }
+}
+
+/// Whether the token at a place is a global whose name begins `llvm.`.
+fn is_intrinsic(alloc: Global, tokens: &Tokens<'_>, at: usize) -> Result<bool, AllocError>
     requires { at ≤ length tokens.now.tokens }
     ensures { IfOk result (λ is. is ≡ begins is_intrinsic_token (left_from tokens.now at)) }
 {
@@ -27,7 +39,7 @@ pub(crate) fn is_intrinsic(
 }
 
 /// Whether the tokens before a place end with `call`, its passed-on words and its type.
-pub(crate) fn ends_call(alloc: Global, tokens: &Tokens<'_>, at: usize) -> Result<bool, AllocError>
+fn ends_call(alloc: Global, tokens: &Tokens<'_>, at: usize) -> Result<bool, AllocError>
     requires { at ≤ length tokens.now.tokens }
     ensures { IfOk result (λ ends. IsTrue ends ↔ EndsCall (take at (lexemes tokens.now))) }
 {

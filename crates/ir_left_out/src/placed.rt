@@ -11,7 +11,7 @@ pub(crate) fn placed<'a>(tokens: &Tokens<'a>, at: usize) -> Option<(TokenKind, &
         (λ token. slice_get (placed tokens.now) at
         ≡ Some (record { lexeme = record { kind = token.0; text = token.1.now }; from = token.2 })) }
     ensures within { MatchOption result (length tokens.now.tokens ≤ at) (λ token. at < length tokens.now.tokens) }
-    ensures end { MatchOption result (Unit {0}) (λ token. (0 < length token.1.now) → (token.2 + length token.1.now < 2 ^ 64)) }
+    ensures end { MatchOption result (Unit {0}) (λ token. token.2 + length token.1.now < 2 ^ 64) }
 {
     let token = tokens.get(at)?;
     let text = tokens.text(at)?;

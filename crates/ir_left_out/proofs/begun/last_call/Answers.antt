@@ -4,7 +4,7 @@ use Rattle.ir_text.specs.Tokens.{Lexeme}
 use Rattle.ir_lex.specs.Tokenized.{lexemes}
 use Rattle.ir_parts.proofs.Places.{length_left}
 use Rattle.ir_left_out.specs.Begun.{deeper, depth_before}
-use Rattle.ir_left_out.proofs.CallPlace.{StopsAt, one_stop, call_there, no_call, further}
+use Rattle.ir_left_out.proofs.CallPlace.{one_stop, call_there, no_call, further}
 use Rattle.ir_left_out.proofs.begun.last_call.Goals as goal
 
 -- the loop's place is behind the one that is looked at
@@ -15,7 +15,8 @@ behind n h = omega arith
 one_back : (ts : List Lexeme) (end at depth : ℕ) (t : Lexeme) (found : Option ℕ) → 0 < at → at ≤ end
     → drop (at - 1) ts ≡ t ∷ drop (at - 1 + 1) ts → depth_before (drop at (take end ts)) ≡ Some depth
     → found ≡ deeper t.kind t.text depth
-    → (depth_before (drop (suc (at - 1)) (take end ts)) ≡ Some depth) × (depth_before (drop (at - 1) (take end ts)) ≡ found)
+    → (depth_before (drop (suc (at - 1)) (take end ts)) ≡ Some depth)
+    × (depth_before (drop (at - 1) (take end ts)) ≡ found)
 one_back ts end at depth t found some within first e is =
     let there : suc (at - 1) ≡ at = behind at some in
     let rest : depth_before (drop (suc (at - 1)) (take end ts)) ≡ Some depth =

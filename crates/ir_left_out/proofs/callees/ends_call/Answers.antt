@@ -1,14 +1,15 @@
-use Rattle.std.proofs.Common.{◌≡◌, ℕ, Ok, ap, sym, ◌∙◌}
+use Rattle.std.proofs.Common.{ℕ, Ok, ap, sym, ◌∙◌}
 use Rattle.std.proofs.lemmas.Bool.{eqb-true, eq-eqb}
 use Rattle.ir_parts.specs.Reading.{left_from}
-use Rattle.ir_left_out.proofs.CallFound.{ends_there, ends_read, same_place}
+use Rattle.ir_left_out.proofs.EndsIn.{ends_there, same_place}
+use Rattle.ir_left_out.proofs.CallFound.{begun_reads, ends_read}
 use Rattle.ir_left_out.proofs.callees.ends_call.Goals as goal
 
 pub returns-in-Ok : goal.returns-in-Ok
 returns-in-Ok c =
     let t = c.args.tokens.now in (
       λ same.
-          ends_there t c.last_call.result c.args.at
+          ends_there begun_reads t c.last_call.result c.args.at
           (c.in-Ok.ensures.value
           ∙ ap (λ (n : ℕ). Ok (tt, left_from t n)) (eqb-true c.in-Ok.behind c.args.at same)),
       λ ends.

@@ -1,4 +1,4 @@
-use Rattle.std.proofs.Common.{◌≡◌, ◌∙◌}
+use Rattle.std.proofs.Common.{◌∙◌}
 use Rattle.ir_parts.specs.Reading.{left_from}
 use Rattle.ir_left_out.proofs.CallFound.{name_read, no_name_read}
 use Rattle.ir_left_out.proofs.callees.is_intrinsic.Goals as goal

@@ -6,6 +6,7 @@ use Rattle.std.proofs.lemmas.Iterator.{YieldsList-from_slice}
 use Rattle.std.proofs.lemmas.Iterator.Search.{position_from_yields_List}
 use Rattle.ir_parts.proofs.passed_words.place_among.Goals as goal
 
+-- A place by what is pointed to is a place in the list of it.
 place_in : (text : List ℕ) (texts : List (Bor (List ℕ)))
     → position_or_len (λ (each : Bor (List ℕ)). bytes_eq each.now text) texts
     ≡ position_or_len (λ each. bytes_eq each text) (map (λ (each : Bor (List ℕ)). each.now) texts)
@@ -16,4 +17,7 @@ pub returns : goal.returns
 returns c =
     position_from_yields_List (λ (each : Bor (List ℕ)). bytes_eq each.now c.args.text.now) _ _ c.position.result
     c.position.ensures.ran (YieldsList-from_slice c.args.texts.now cc) (λ x b q k. search (rules, tests))
-    ∙ rw (place_in c.args.text.now c.args.texts.now, length-map c.args.texts.now (λ (each : Bor (List ℕ)). each.now)) refl
+    ∙ rw (
+      place_in c.args.text.now c.args.texts.now,
+      length-map c.args.texts.now (λ (each : Bor (List ℕ)). each.now),
+    ) refl
