@@ -28,8 +28,8 @@ pub use forms::{inner_text, is_number, is_signed_number, is_string_text};
 pub use global_names::read_global_name;
 pub use literals::{numeral, word_operand};
 pub use metadata::{
-    braces as skip_braces, metadata as behind_metadata, skip_bare_attachment, skip_metadata, skip_node,
-    skip_pairs, starts_metadata_word, starts_part,
+    braces as skip_braces, metadata as behind_metadata, skip_bare_attachment, skip_metadata,
+    skip_node, skip_pairs, starts_metadata_word, starts_part,
 };
 pub use names::{is_global, is_local};
 pub use numbers::{are_digits, int_width_of, small_number};
