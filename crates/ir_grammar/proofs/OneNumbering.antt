@@ -83,7 +83,8 @@ module _ (globals : List (List ℕ)) (ms : List Mention) where
 
 -- ---- one table
 
-same_infos : (xs ys : List ValueInfo) → map (λ (info : ValueInfo). info.name) xs ≡ map (λ (info : ValueInfo). info.name) ys
+same_infos : (xs ys : List ValueInfo)
+    → map (λ (info : ValueInfo). info.name) xs ≡ map (λ (info : ValueInfo). info.name) ys
     → ((v : ℕ) (a b : ValueInfo) → slice_get xs v ≡ Some a → slice_get ys v ≡ Some b → a.kind ≡ b.kind) → xs ≡ ys
 same_infos [] [] names kinds = refl
 same_infos [] (y ∷ ys) names kinds = absurd cc

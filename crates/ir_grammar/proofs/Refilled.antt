@@ -126,7 +126,9 @@ refill_op (Gep inbounds kind base indices) ids =
     let b = refill_operand base ids in
     let is = refill_list refill_typed indices b.1 in
     (Gep inbounds kind b.0 is.0, is.1)
-refill_op (Call ret callee args) ids = let found = refill_list refill_typed args ids in (Call ret callee found.0, found.1)
+refill_op (Call ret callee args) ids =
+    let found = refill_list refill_typed args ids in
+    (Call ret callee found.0, found.1)
 refill_op (Jump to) ids = let t = block_id ids in (Jump t.0, t.1)
 refill_op (Branch cond there other) ids =
     let c = refill_operand cond ids in
@@ -272,13 +274,15 @@ body_restored f =
       list_restored refill_block bare_block block_sites block_restored f.blocks [],
     ) refl
 
--- Functions with the same parameters and blocks without ids, and with the same ids, have the same parameters and blocks.
+-- Functions with the same parameters and blocks without ids, and with the same ids, have the same parameters and
+-- blocks.
 pub same_body : (f g : Function) → map bare_param f.params ≡ map bare_param g.params
     → map bare_block f.blocks ≡ map bare_block g.blocks → function_sites f ≡ function_sites g
     → (f.params ≡ g.params) × (f.blocks ≡ g.blocks)
 same_body f g params blocks ids =
     let both : ((f.params, f.blocks), []) ≡ ((g.params, g.blocks), []) =
-    sym (body_restored f) ∙ (ap (λ (ps : List Param). refill_body (ps, map bare_block f.blocks) (function_sites f)) params
+    sym (body_restored f) ∙ (ap (λ (ps : List Param). refill_body (ps, map bare_block f.blocks) (function_sites f))
+        params
     ∙ (ap (λ (bs : List Block). refill_body (map bare_param g.params, bs) (function_sites f)) blocks
     ∙ (ap (refill_body (map bare_param g.params, map bare_block g.blocks)) ids ∙ body_restored g))) in (
       ap (λ (b : (List Param × List Block) × List Site). b.0.0) both,

@@ -110,8 +110,8 @@ SpellsDraft (item.Global g) = silent (SpellsGlobal g)
 SpellsDraft (item.Declare d) = silent (SpellsDeclare d)
 SpellsDraft (item.Define f) = SpellsFunction f
 
--- A comma at the end of an item, behind which an empty run of words stands, isn't followed by metadata: that would be an
--- attachment.
+-- A comma at the end of an item, behind which an empty run of words stands, isn't followed by metadata: that would
+-- be an attachment.
 abbrev pub EndsApart : List Lexeme → List Lexeme → Type 0
 EndsApart own behind = (before more : List Lexeme) (t : Lexeme) → own ≡ before ++ sign 44 ∷ [] → behind ≡ t ∷ more
     → t.kind ≡ Metadata → ⊥

@@ -254,7 +254,8 @@ SpellsOp (Freeze kind value) words ms ts = (words ≡ [])
 SpellsOp (Alloca kind) words ms ts = (align : List ℕ) × (words ≡ align ∷ [])
     × (the_word (codes "alloca") ⊙ the_type IsStored kind ⊙ silent (SpellsAlign align)) ms ts
 SpellsOp (Load kind from) words ms ts = (align : List ℕ) × (words ≡ align ∷ [])
-    × (the_word (codes "load") ⊙ the_type IsInt kind ⊙ the_comma ⊙ SpellsPointer from ⊙ silent (SpellsAlign align)) ms ts
+    × (the_word (codes "load") ⊙ the_type IsInt kind ⊙ the_comma ⊙ SpellsPointer from
+    ⊙ silent (SpellsAlign align)) ms ts
 SpellsOp (Store kind value to) words ms ts = (align : List ℕ) × (words ≡ align ∷ [])
     × (the_word (codes "store") ⊙ the_type IsInt kind ⊙ SpellsOperand value ⊙ the_comma
     ⊙ SpellsPointer to ⊙ silent (SpellsAlign align)) ms ts

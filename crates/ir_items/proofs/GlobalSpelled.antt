@@ -107,7 +107,8 @@ record Parts (name : List ℕ) (said : Run × List ℕ) (constant : Bool) (kind 
   runs_there : InSequence (λ run. comma · SpellsRunText run) runs.0 at_runs
   rest_there : Attached runs.1 at_rest
 
-parts_spell : (name : List ℕ) (said : Run × List ℕ) (constant : Bool) (kind : IrType) (value : Option Init) (runs : Runs)
+parts_spell : (name : List ℕ) (said : Run × List ℕ) (constant : Bool) (kind : IrType) (value : Option Init) (runs :
+    Runs)
     (ts : List Lexeme) → Parts name said constant kind value runs ts
     → SpellsGlobal (global_of (name, (typed_of (said, (constant, kind)), (value, tail_of runs)))).0 ts
 parts_spell name said constant kind value runs ts p =

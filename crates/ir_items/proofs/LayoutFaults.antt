@@ -38,7 +38,8 @@ past_first spec more text word at parts free fine (later {at = behind} first res
     (behind, subst (λ (rest : List ℕ). IsLayoutFault rest word behind) (sym tails) fault)
 
 -- one specification on
-pub faults_on : (text rest more : List ℕ) (from : ℕ) → FaultsFrom text rest from → rest ≡ first_part 45 rest ++ 45 ∷ more
+pub faults_on : (text rest more : List ℕ) (from : ℕ) → FaultsFrom text rest from → rest ≡ first_part 45 rest ++ 45 ∷
+    more
     → left_out (first_part 45 rest) ≡ None → FaultsFrom text more (from + length (first_part 45 rest) + 1)
 faults_on text rest more from so_far parts fine =
     let spec : List ℕ = first_part 45 rest in

@@ -35,7 +35,8 @@ module _ {value : Read Init} {Value : Init → Language} (value_reads : IsReader
       make p = record { kind = p.0; init = p.1 }
 
       there : (part : InitPart) (ts : List Lexeme)
-          → (p : IrType × Init) × (part ≡ make p) × (SpellsTypeOf IsStored p.0 · Value p.1) ts → SpellsPart Value part ts
+          → (p : IrType × Init) × (part ≡ make p) × (SpellsTypeOf IsStored p.0 · Value p.1) ts → SpellsPart Value part
+          ts
       there part ts l = subst (λ (part : InitPart). SpellsPart Value part ts) (sym l.1) l.2
 
       back : (part : InitPart) (ts : List Lexeme) → SpellsPart Value part ts
@@ -47,14 +48,17 @@ module _ {value : Read Init} {Value : Init → Language} (value_reads : IsReader
   SpellsInside list ts = (parts : List InitPart) × (SeparatedByCommas (SpellsPart Value) parts
       · (λ ts. (list ≡ init.List parts) × punctuation 93 ts)) ts
 
-  inside_reads : IsReader (with_commas_at (part_at value) >>= λ parts. punctuation_at 93 >>= λ _. pure (init.List parts))
+  inside_reads : IsReader (with_commas_at (part_at value) >>= λ parts. punctuation_at 93 >>= λ _. pure (init.List
+      parts))
       SpellsInside Anything
   unfolding SpellsInside
   inside_reads =
       followed (λ parts. punctuation_at 93 >>= λ _. pure (init.List parts))
-      (λ parts list ts. (list ≡ init.List parts) × punctuation 93 ts) Anything (with_commas_read part_reads (λ part t e. tt))
+      (λ parts list ts. (list ≡ init.List parts) × punctuation 93 ts) Anything (with_commas_read part_reads (λ part t
+      e. tt))
       (λ parts. stands_for (init.List parts) (sign_reads 93))
-      (λ parts list taken rest l stops. subst (λ (taken : List Lexeme). StopsAt (StopLast Anything parts) (taken ++ rest))
+      (λ parts list taken rest l stops. subst (λ (taken : List Lexeme). StopsAt (StopLast Anything parts) (taken ++
+      rest))
       (sym l.1) (closes parts))
     where
       closes : (parts : List InitPart) → StopLast Anything parts (sign 93)

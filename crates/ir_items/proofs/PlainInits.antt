@@ -118,7 +118,8 @@ words_read : IsReader word_init_at (λ value. SpellsZero value or SpellsLiteralI
 unfolding word_init_at
 words_read = chosen (is_keyword (codes "zeroinitializer")) zero_reads literals_read
     (λ value ts l. rw l.1 refl)
-    (λ value taken rest l stops. literal_begins (is_keyword (codes "zeroinitializer")) (λ text. refl) refl refl refl refl
+    (λ value taken rest l stops. literal_begins (is_keyword (codes "zeroinitializer")) (λ text. refl) refl refl refl
+    refl
     refl l.0 taken rest l.2)
     zero_begun
 

@@ -143,7 +143,8 @@ halts_at run ([], false) (t ∷ rest) first next = neither_or (is_punctuation 44
 halts_at run ([], true) (t ∷ rest) first next = next
 halts_at run (other ∷ others, attached) (t ∷ rest) first next = next
 
-stops_behind : (run : Run × List ℕ) (others : Runs) (rest : List Lexeme) → StopsAt (StopWeakly (with_run run others)) rest
+stops_behind : (run : Run × List ℕ) (others : Runs) (rest : List Lexeme) → StopsAt (StopWeakly (with_run run others))
+    rest
     → StopsAt (StopRuns others) rest
 stops_behind run others [] stop = tt
 stops_behind run ([], false) (t ∷ rest) stop = (or_neither (is_punctuation 44 t) (goes_on run.0.ending t) stop).0
@@ -175,7 +176,8 @@ module _ {behind : Read Runs} {Behind : Runs → Language} (behind_reads : IsRea
   halts run runs taken rest l first next =
       subst (λ (runs : Runs). StopsAt (StopWeakly runs) rest) (sym l.1)
       (halts_at run l.0 rest
-      (λ e. subst (λ (taken : List Lexeme). StopsAt (StopsWords run) (taken ++ rest)) (only_nothing l.0 taken l.2 e) first)
+      (λ e. subst (λ (taken : List Lexeme). StopsAt (StopsWords run) (taken ++ rest)) (only_nothing l.0 taken l.2 e)
+      first)
       (subst (λ (runs : Runs). StopsAt (StopBehind runs) rest) l.1 next))
 
   stopped : (run : Run × List ℕ) (runs : Runs) (taken rest : List Lexeme) → Others (SpellsTail Behind) run runs taken
@@ -196,7 +198,8 @@ module _ {behind : Read Runs} {Behind : Runs → Language} (behind_reads : IsRea
 
   more_read : IsReader (more_runs_at (behind_comma_at behind)) (SpellsMore (SpellsTail Behind)) StopWeakly
   unfolding more_runs_at
-  more_read = followed_until (λ run. made (with_run run) (behind_comma_at behind)) (Others (SpellsTail Behind)) StopBehind
+  more_read = followed_until (λ run. made (with_run run) (behind_comma_at behind)) (Others (SpellsTail Behind))
+      StopBehind
       StopWeakly words_read
       (λ run. mapped (with_run run) StopBehind (λ runs t stop. stop) (λ runs t stop. stop) (tail_reads behind_reads))
       halts stopped

@@ -21,7 +21,8 @@ is_empty_run _ = false
 -- whether a token goes on with a global that ends so
 abbrev pub goes_on_global : GlobalEnding → Lexeme → Bool
 goes_on_global Whole t = is_punctuation 44 t
-goes_on_global (Words ending) t = is_punctuation 44 t || (goes_on ending t || (is_empty_run ending && is_metadata_word t))
+goes_on_global (Words ending) t = is_punctuation 44 t || (goes_on ending t || (is_empty_run ending && is_metadata_word
+    t))
 
 -- ---- the reading
 

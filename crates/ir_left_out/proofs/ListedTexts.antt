@@ -27,7 +27,8 @@ listed_there texts text place e =
 -- ---- none of them
 
 -- where no place is found, all of them were passed by
-none_passes : (p : List ℕ → Bool) (texts : List (List ℕ)) → position p texts ≡ None → position_or_len p texts ≡ length texts
+none_passes : (p : List ℕ → Bool) (texts : List (List ℕ)) → position p texts ≡ None → position_or_len p texts ≡ length
+    texts
 none_passes p texts e = decide (ltb (position_or_len p texts) (length texts)) refl
   where
     decide : (b : Bool) → ltb (position_or_len p texts) (length texts) ≡ b → position_or_len p texts ≡ length texts

@@ -38,7 +38,8 @@ module _ {read : Read (List Draft)} (r : ReadsItems read) where
       cc
 
   -- what is refused is no module
-  pub none_whole : (ts : List Lexeme) (left : ℕ) → read ts ≡ Err left → (drafts : List Draft) → SpellsItems drafts ts → ⊥
+  pub none_whole : (ts : List Lexeme) (left : ℕ) → read ts ≡ Err left → (drafts : List Draft) → SpellsItems drafts ts →
+      ⊥
   none_whole ts left e drafts spelled = let both = sym e ∙ r.reads drafts ts spelled in cc
 
   -- a text has one list of items

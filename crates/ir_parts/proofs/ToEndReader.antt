@@ -17,8 +17,8 @@ InTurn L Stop [] ts = ts ≡ []
 InTurn L Stop (x ∷ xs) ts = (us vs : List Lexeme) × (ts ≡ us ++ vs) × L x us × StopsAt (Stop x) vs × InTurn L Stop xs vs
 
 -- The tokens before a refusal begin such sentences; with the token at which it comes, the refusal stays.
-pub record RefusedToEnd {A : Type 0} (barred : A → Lexeme → Bool) (item : Read A) (L : A → List Lexeme → Type 0) (Stop : A → Lexeme
-    → Type 0) (ts : List Lexeme) (left : ℕ) : Type 0 where
+pub record RefusedToEnd {A : Type 0} (barred : A → Lexeme → Bool) (item : Read A) (L : A → List Lexeme → Type 0)
+    (Stop : A → Lexeme → Type 0) (ts : List Lexeme) (left : ℕ) : Type 0 where
   pub before : List Lexeme
   pub after : List Lexeme
   pub parts : ts ≡ before ++ after
@@ -30,7 +30,8 @@ pub record RefusedToEnd {A : Type 0} (barred : A → Lexeme → Bool) (item : Re
       → length (before ++ t ∷ instead) ≤ most
       → to_end_at barred item most (before ++ t ∷ instead) ≡ Err (suc (length instead))
 
-module _ {X : Type 0} (barred : X → Lexeme → Bool) {item : Read X} {L : X → List Lexeme → Type 0} {Stop : X → Lexeme → Type 0}
+module _ {X : Type 0} (barred : X → Lexeme → Bool) {item : Read X} {L : X → List Lexeme → Type 0}
+    {Stop : X → Lexeme → Type 0}
     (item_reads : IsReader item L Stop)
     (some_tokens : (x : X) → L x [] → ⊥) where
   -- what stops a thing

@@ -84,7 +84,12 @@ module _ {X : Type 0} (last : X → Bool) {item : Read X} {L : X → List Lexeme
       elim (either (last b.value)) [
         | inl is ↦
             let found : Taken (UntilLast last L) (StopsLast last Stop) ts (b.value ∷ []) b.middle =
-            record { taken = t.taken; parts = t.parts; spelled = (is, t.spelled); stops = stops_also b.middle (λ u stop e. stop) t.stops } in
+            record {
+              taken = t.taken;
+              parts = t.parts;
+              spelled = (is, t.spelled);
+              stops = stops_also b.middle (λ u stop e. stop) t.stops;
+            } in
             subst (λ (read : List X × List Lexeme). Taken (UntilLast last L) (StopsLast last Stop) ts read.0 read.1)
             (same_read (b.value ∷ [], b.middle) (xs, rest) (sym (ended most b.value b.middle is) ∙ b.second)) found
         | inr isnt ↦
@@ -96,7 +101,8 @@ module _ {X : Type 0} (last : X → Bool) {item : Read X} {L : X → List Lexeme
               parts = in_two_parts ts t.taken u.taken b.middle d.middle t.parts u.parts;
               spelled = until_later last L b.value d.value (t.taken ++ u.taken) t.taken u.taken refl isnt t.spelled
                   u.spelled;
-              stops = stops_later last Stop b.value d.value d.middle (some_read last L d.value u.taken u.spelled) u.stops;
+              stops = stops_later last Stop b.value d.value d.middle (some_read last L d.value u.taken u.spelled)
+                  u.stops;
             } in
             subst (λ (read : List X × List Lexeme). Taken (UntilLast last L) (StopsLast last Stop) ts read.0 read.1)
             (same_read (b.value ∷ d.value, d.middle) (xs, rest) d.second) found

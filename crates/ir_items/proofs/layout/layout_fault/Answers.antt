@@ -5,13 +5,15 @@ use Rattle.ir_items.proofs.layout.layout_fault.Goals as goal
 
 pub returns-in-Some : goal.returns-in-Some
 returns-in-Some c =
-    let first = the_first c.args.text.now c.first_part-spec.result.now c.specifications.from c.first_part-spec.ensures in
+    let first = the_first c.args.text.now c.first_part-spec.result.now c.specifications.from c.first_part-spec.ensures
+        in
     fault_here c.args.text.now (drop c.specifications.from c.args.text.now) c.specifications.from c.in-Some.word
     c.specifications.invariant.faults (sym (c.in-Some.ensures ∙ ap left_out first))
 
 pub returns-then-end-text : goal.returns-then-end-text
 returns-then-end-text c =
-    let first = the_first c.args.text.now c.first_part-spec.result.now c.specifications.from c.first_part-spec.ensures in
+    let first = the_first c.args.text.now c.first_part-spec.result.now c.specifications.from c.first_part-spec.ensures
+        in
     let reaches = all_first c.args.text.now c.specifications.from
     (omega (arith, c.if-end-text.true, ap length first)) in
     no_fault c.args.text.now (drop c.specifications.from c.args.text.now) c.specifications.from
@@ -19,7 +21,8 @@ returns-then-end-text c =
 
 pub specifications-preserved : goal.specifications-preserved
 specifications-preserved c =
-    let first = the_first c.args.text.now c.first_part-spec.result.now c.specifications.from c.first_part-spec.ensures in
+    let first = the_first c.args.text.now c.first_part-spec.result.now c.specifications.from c.first_part-spec.ensures
+        in
     let parts = more_behind c.args.text.now c.specifications.from
     (omega (arith, c.if-end-text.false, ap length first)) in
     record {
