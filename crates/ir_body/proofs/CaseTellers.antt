@@ -132,12 +132,6 @@ switch_tells = made_told make_switch (λ t. Unit {0})
 
 -- ---- `unreachable`
 
-abbrev pub make_unreachable : Unit {0} → Operation
-make_unreachable u = plain Unreachable
-
-abbrev pub SpellsUnreachable : Unit {0} → Mentioning
-SpellsUnreachable u ms ts = (ms ≡ []) × (ts ≡ [])
-
 pub unreachable_tells : IsTeller unreachable_at
     (λ operation. silent (λ ts. (operation ≡ plain Unreachable) × (ts ≡ []))) Anything
 unfolding unreachable_at

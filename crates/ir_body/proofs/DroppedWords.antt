@@ -20,8 +20,8 @@ pub drop_tells : {Y : Type 0} (text : List ℕ) {b : Telling Y} {B : Y → Menti
 unfolding dropped_at
 drop_tells {Y} text {b} {B} {StopB} next other =
     told_as (λ y. silent (dropped_word text) ⊙ B y) there back
-    (told_reading (silently (dropped_at text) ▷ b) (λ ts. same (flag_at text ts)) (each_tells (λ set. b) (λ set. B)
-    StopB (silent_tells (flag_reads text)) (λ set. next)
+    (told_reading (silently (dropped_at text) ▷ b) (λ ts. same (flag_at text ts))
+    (each_tells (λ set. b) (λ set. B) StopB (silent_tells (flag_reads text)) (λ set. next)
     (λ set y ms taken rest l stops. flag_stops text set (taken ++ rest) (other y ms taken rest l))))
   where
     same : (r : Result (Bool × List Lexeme) ℕ)

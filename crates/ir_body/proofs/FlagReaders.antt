@@ -72,15 +72,15 @@ flag_stops text false (t ∷ ts) e = e
 abbrev pub spelled_flags : Flags → BinaryFlags
 spelled_flags flags = record { nuw = flags.nuw; nsw = flags.nsw; exact = flags.exact; disjoint = flags.disjoint }
 
-pub exact_reads : IsReader exact_at (λ flags. SpellsBinaryFlags Exact (spelled_flags flags)) (λ flags. NoFlagBehind
-    (codes "exact") flags.exact)
+pub exact_reads : IsReader exact_at (λ flags. SpellsBinaryFlags Exact (spelled_flags flags))
+    (λ flags. NoFlagBehind (codes "exact") flags.exact)
 unfolding exact_at
 exact_reads = of_language (λ flags. SpellsBinaryFlags Exact (spelled_flags flags))
     (λ flags ts l. subst (λ (flags : Flags). SpellsBinaryFlags Exact (spelled_flags flags) ts) (sym l.1)
     (refl, refl, refl, l.2))
     (λ flags ts l. (flags.exact, same flags l.0 l.1 l.2, l.3))
-    (mapped (λ exact. record { nuw = false; nsw = false; exact = exact; disjoint = false }) (λ flags. NoFlagBehind
-    (codes "exact") flags.exact)
+    (mapped (λ exact. record { nuw = false; nsw = false; exact = exact; disjoint = false })
+    (λ flags. NoFlagBehind (codes "exact") flags.exact)
     (λ set t stop. stop) (λ set t stop. stop) (flag_reads (codes "exact")))
   where
     same : (flags : Flags) → flags.nuw ≡ false → flags.nsw ≡ false → flags.disjoint ≡ false

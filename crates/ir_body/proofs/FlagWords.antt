@@ -23,8 +23,8 @@ pub among_there : (texts : List (List ℕ)) (text : List ℕ) → is_among texts
 among_there [] text e = absurd cc
 among_there (x ∷ xs) text e = elim (either (bytes_eq x text)) [
   | inl same ↦ (0, omega arith, (bytes_eq-Decides x text).0 same)
-  | inr other ↦ contains_later x xs text (among_there xs text (sym (ap (λ (b : Bool). b || is_among xs text) other) ∙
-      e))
+  | inr other ↦ contains_later x xs text
+      (among_there xs text (sym (ap (λ (b : Bool). b || is_among xs text) other) ∙ e))
 ]
 
 pub or_true : (b : Bool) → (b || true) ≡ true

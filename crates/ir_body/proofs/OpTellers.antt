@@ -142,8 +142,8 @@ there Select operation ms ts l = of_attached (codes "select") make_select Spells
 there Phi operation ms ts l = of_made (codes "phi") make_phi SpellsPhi
     (IsFor Phi) (λ read. (tt, λ may. refl))
     (λ read ms ts l. first_as (λ ms ts l. (refl, l)) ms ts
-    (pulled (pulled (λ ms ts l. first_as (commas_there SpellsEntry read.1.0 read.1.1) ms ts (assoc_back ms ts l))) ms
-    ts l))
+    (pulled (pulled (λ ms ts l. first_as (commas_there SpellsEntry read.1.0 read.1.1) ms ts
+    (assoc_back ms ts l))) ms ts l))
     operation ms ts l
 there Freeze operation ms ts l = of_attached (codes "freeze") make_freeze SpellsTyped
     (IsFor Freeze) (λ read. (tt, λ may. refl)) (λ read ms ts l. (refl, l)) operation ms ts l

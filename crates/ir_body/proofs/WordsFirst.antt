@@ -58,8 +58,8 @@ one_word text ts rest set e = elim (either (begins (is_keyword text) ts)) [
       ∙ ap (λ (b : Bool). go_on (if b then Ok (tt, drop 1 ts) else Err (length ts)) (λ _. pure true)) passed) ∙ e)
   | inr failed ↦
       no_more 1 (text ∷ []) ts (none_begin (text ∷ []) ts (failed, tt))
-      ∙ of_none set (sym (chosen_other (is_keyword text) (keyword_at text >>= λ _. pure true) (pure false) ts failed) ∙
-      e)
+      ∙ of_none set (sym (chosen_other (is_keyword text) (keyword_at text >>= λ _. pure true) (pure false) ts failed)
+      ∙ e)
 ]
   where
     of_set : (set : Bool) → ◌≡◌ {A = Result (Bool × List Lexeme) ℕ} (Ok (true, drop 1 ts)) (Ok (set, rest))
@@ -154,8 +154,8 @@ gep_first t at text one other set rest x left among keeps passes read =
     let b = both_read (words_at 2 (one ∷ other ∷ []) (left_from t (at + 1)))
     (λ found. pure (is_among found one, is_among found other)) (set, rest) read in
     let same = same_read ((is_among b.value one, is_among b.value other), b.middle) (set, rest) b.second in
-    ap (λ r. go_on r (λ found. pure (is_among found (codes "inbounds")))) (word_taken t at 2 gep_words text passes
-        among)
+    ap (λ r. go_on r (λ found. pure (is_among found (codes "inbounds"))))
+    (word_taken t at 2 gep_words text passes among)
     ∙ (both_words (λ found. is_among found (codes "inbounds")) text b.middle b.value x
     (words_at 2 (without gep_words text) (left_from t (at + 1)))
     (ap (λ (ws : List (List ℕ)). words_at 2 ws (left_from t (at + 1))) left ∙ b.first)

@@ -70,7 +70,8 @@ pub(crate) fn read_flags(tokens: &Tokens<'_>, from: usize, op: BinOp) -> (Flags,
 fn pair(tokens: &Tokens<'_>, from: usize, one: &[u8], other: &[u8]) -> ((bool, bool), usize)
     requires from { from ≤ length tokens.now.tokens }
     requires apart { bytes_eq one.now other.now ≡ false }
-    ensures value { pair_at one.now other.now (left_from tokens.now from) ≡ Ok (result.0, left_from tokens.now result.1) }
+    ensures value { pair_at one.now other.now (left_from tokens.now from)
+        ≡ Ok (result.0, left_from tokens.now result.1) }
     ensures forth { (from ≤ result.1) × (result.1 ≤ length tokens.now.tokens) }
 {
     if starts_keyword(tokens, from, one) {
