@@ -9,12 +9,11 @@ ghost use Rattle.ir_body.specs.Cases.{number_word, number_of, number_at, number_
 ghost use Rattle.ir_text.specs.Sites.{bare_case};
 ghost use Rattle.ir_body.specs.Views.{bare_operation, operation_sites, case_sites, bare_cases, cases_sites};
 
-use crate::names::is_signed_number;
 use crate::operands::{read_target, read_typed};
 use crate::operation::Operation;
 use ir_lex::{TokenKind, Tokens, signed_value};
 use ir_model::{Case, Op};
-use ir_parts::{ItemFault, behind_sign, int_width_of, next, read_scalar_type};
+use ir_parts::{ItemFault, behind_sign, int_width_of, is_signed_number, next, read_scalar_type};
 use sqlite_items::Items;
 use std::alloc::Global;
 
