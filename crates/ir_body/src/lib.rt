@@ -12,7 +12,7 @@ mod values;
 
 pub use binary::{read_binary, read_comparison, read_freeze};
 pub use branch::{read_br, read_ret};
-pub use flags::Flags;
+pub use flags::{Flags, read_flag};
 pub use opcode::{Opcode, read_opcode, starts_call};
 pub use operands::{
     Two, read_block_name, read_operand, read_pointer, read_target, read_two, read_typed,

@@ -11,3 +11,5 @@ pub mod ArgumentLists
 pub mod CallTellers
 pub mod CallChains
 pub mod DroppedCalls
+pub mod ArgumentAt
+pub mod MinimumNames

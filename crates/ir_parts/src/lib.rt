@@ -30,6 +30,7 @@ pub use literals::{numeral, word_operand};
 pub use metadata::{skip_metadata, skip_pairs, starts_part};
 pub use names::{is_global, is_local};
 pub use passed_text::text_between;
+pub use pieces::parentheses;
 pub use read_types::{
     read_int_type, read_returned_type, read_scalar_type, read_stored_type, read_type,
 };
