@@ -13,3 +13,5 @@ pub mod CallChains
 pub mod DroppedCalls
 pub mod ArgumentAt
 pub mod MinimumNames
+pub mod TailAt
+pub mod CalleeAt
