@@ -15,3 +15,4 @@ pub mod ArgumentAt
 pub mod MinimumNames
 pub mod TailAt
 pub mod CalleeAt
+pub mod BehindAt

@@ -85,7 +85,7 @@ last_digit ds end n many within some inside =
     ∙ last_byte ds (decimal (n / 10)) (end - 1) (48 + n % 10) (omega (arith, some, inside)))
 
 -- two numbers, compared
-unequal : (a b : ℕ) → (a ≡ b → ⊥) → nat_eq a b ≡ false
+pub unequal : (a b : ℕ) → (a ≡ b → ⊥) → nat_eq a b ≡ false
 unequal a b apart = elim (either (nat_eq a b)) [
   | inl same ↦ absurd (apart (eqb-true a b same))
   | inr other ↦ other

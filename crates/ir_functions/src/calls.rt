@@ -1,16 +1,17 @@
 //! Calls.
 
-ghost use Rattle.std.specs.Prelude.{◌≡◌, ◌<◌, ◌≤◌, length, IfOk};
+ghost use Rattle.std.specs.Prelude.{◌≡◌, ◌<◌, ◌≤◌, length, IfOk, if◌then◌else◌, Some, None};
 ghost use Rattle.ir_parts.specs.Reading.{left_from, one_at, Reads};
 ghost use Rattle.ir_functions.specs.Silent.{tail_at, head_at};
-ghost use Rattle.ir_functions.specs.Calls.{callee_named, callee_of};
+ghost use Rattle.ir_functions.specs.Calls.{callee_named, callee_of, ended_at};
 
 use crate::callee::{is_dropped_name, is_intrinsic, is_minimum};
 use ir_body::read_flag;
 use ir_lex::Tokens;
 use ir_model::{IrType, Text};
 use ir_parts::{
-    ItemFault, behind_keyword, read_global_name, read_returned_type, text_between, words,
+    Ending, ItemFault, behind_keyword, read_global_name, read_returned_type, skip_metadata,
+    text_between, words,
 };
 use std::alloc::Global;
 
@@ -96,4 +97,27 @@ pub(crate) fn read_callee(
         Some(callee) => Ok((callee, at)),
         None => Err(ItemFault::CannotGoOn { at_token: from }),
     }
+}
+
+/// The text of passed-on words behind a call, and how they end where no attachment stands behind them; and the place
+/// behind the attachments.
+fn read_behind(
+    alloc: Global,
+    tokens: &Tokens<'_>,
+    from: usize,
+) -> Result<((Text, Option<Ending>), usize), ItemFault>
+    requires { from ≤ length tokens.now.tokens }
+    ensures value { Reads tokens.now result (ended_at (left_from tokens.now from)) }
+    ensures forth { IfOk result (λ read. (from ≤ read.1) × (read.1 ≤ length tokens.now.tokens)) }
+{
+    let ((said, text), end) = words(alloc, tokens, from)?;
+    let at = skip_metadata(alloc, tokens, end)?;
+    let tail = ending_if(at == end, said.ending);
+    Ok(((text, tail), at))
+}
+
+fn ending_if(alone: bool, ending: Ending) -> Option<Ending>
+    ensures { result ≡ (if alone then Some ending else None) }
+{
+    if alone { Some(ending) } else { None }
 }
