@@ -27,7 +27,7 @@ const NONE: Flags = Flags {
 
 /// Whether the word stands there, and the place behind it.
 #[tactic(auto, unfolding(crate::specs::Flags::flag_at))]
-pub(crate) fn read_flag(tokens: &Tokens<'_>, from: usize, text: &[u8]) -> (bool, usize)
+pub fn read_flag(tokens: &Tokens<'_>, from: usize, text: &[u8]) -> (bool, usize)
     requires { from ≤ length tokens.now.tokens }
     ensures value { flag_at text.now (left_from tokens.now from) ≡ Ok (result.0, left_from tokens.now result.1) }
     ensures forth { (from ≤ result.1) × (result.1 ≤ length tokens.now.tokens) }

@@ -16,7 +16,7 @@ pub use aligned::{read_alloca, read_load, read_store};
 pub use binary::{read_binary, read_comparison, read_freeze};
 pub use branch::{read_br, read_ret};
 pub use cases::{read_switch, read_unreachable};
-pub use flags::Flags;
+pub use flags::{Flags, read_flag};
 pub use opcode::{Opcode, read_opcode, starts_call};
 pub use operands::{
     Two, read_block_name, read_operand, read_pointer, read_target, read_two, read_typed,

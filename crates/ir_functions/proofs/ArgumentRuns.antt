@@ -120,7 +120,7 @@ inner_refused kind read rest outer e =
     chosen_other is_outer (outer_at kind read.1) (inner_at kind read.0.ending read.1) rest outer ∙ rw e refl
 
 -- the last of some tokens, and those before it
-before_last : (us : List Lexeme) (t : Lexeme) → take (length (us ++ t ∷ []) - 1) (us ++ t ∷ []) ≡ us
+pub before_last : (us : List Lexeme) (t : Lexeme) → take (length (us ++ t ∷ []) - 1) (us ++ t ∷ []) ≡ us
 before_last us t =
     let so_many : length (us ++ t ∷ []) - 1 ≡ length us = omega (arith, length-append us (t ∷ [])) in
     ap (λ (n : ℕ). take n (us ++ t ∷ [])) so_many ∙ take-append_seam us (t ∷ [])

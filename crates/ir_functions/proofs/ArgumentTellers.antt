@@ -383,7 +383,7 @@ behind_nothing : {A : Type 0} (r : Result ((A × List Mention) × List Lexeme) �
 behind_nothing (Ok read) = refl
 behind_nothing (Err left) = refl
 
-told_behind : (kind : IrType) (r : Result ((Run × List Lexeme) × List Lexeme) ℕ)
+pub told_behind : (kind : IrType) (r : Result ((Run × List Lexeme) × List Lexeme) ℕ)
     → go_on {A = (Run × List Lexeme) × List Mention} (go_on r (λ x rest. Ok ((x, []), rest)))
     (λ read rest. behind read.1 (argument_behind_at kind read.0 rest))
     ≡ go_on r (argument_behind_at kind)

@@ -23,3 +23,8 @@ pub mod CallTellers
 pub mod CallChains
 pub mod DroppedCalls
 pub mod WholeFunctions
+pub mod ArgumentAt
+pub mod MinimumNames
+pub mod TailAt
+pub mod CalleeAt
+pub mod BehindAt

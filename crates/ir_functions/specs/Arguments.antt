@@ -59,8 +59,12 @@ inner_at kind ending taken ts = told (inner_operand ending taken)
 unfoldable pub argument_behind_at : IrType → Run × List Lexeme → Telling Argument
 argument_behind_at kind read = choose is_outer (outer_at kind read.1) (inner_at kind read.0.ending read.1)
 
+-- what stands behind the type
+abbrev pub behind_type_at : IrType → Telling Argument
+behind_type_at kind = silently (taking run_at) >>= argument_behind_at kind
+
 unfoldable pub argument_at : Telling Argument
-argument_at = silently scalar_type_at >>= λ kind. silently (taking run_at) >>= argument_behind_at kind
+argument_at = silently scalar_type_at >>= behind_type_at
 
 -- the arguments and the `)` behind them
 unfoldable pub arguments_at : Telling (List Argument)

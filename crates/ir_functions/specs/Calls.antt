@@ -12,7 +12,8 @@ use Rattle.ir_grammar.specs.Operations.{is_intrinsic}
 use Rattle.ir_grammar.specs.Functions.{is_dropped_name}
 use Rattle.ir_parts.specs.declared.ending.Ending.{Ending}
 use Rattle.ir_parts.specs.declared.ending.Run.{Run}
-use Rattle.ir_parts.specs.Reading.{one_at}
+use Rattle.ir_parts.specs.Reading.{Read, one_at}
+use Rattle.ir_parts.specs.Reading as reading
 use Rattle.ir_body.specs.declared.operation.Operation.{Operation}
 use Rattle.ir_body.specs.Telling.{Telling, ◌>>=◌, ◌⊗◌, ◌▷◌, made, silently, sign_at}
 use Rattle.ir_functions.specs.declared.arguments.Argument.{Argument}
@@ -49,6 +50,10 @@ tail_of p = if_none p.1.1
     if_none : List Lexeme → Option Ending
     if_none [] = Some p.0.0.ending
     if_none (t ∷ ts) = None
+
+-- the words' text, and how they end
+unfoldable pub ended_at : Read (List ℕ × Option Ending)
+ended_at = reading.made (λ p. (p.0.1, tail_of p)) trailing_at
 
 unfoldable pub dropped_at : Telling (Option Operation × Option Ending)
 dropped_at = made (λ p. (None, tail_of p)) (silently dropped_call_at)

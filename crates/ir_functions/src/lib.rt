@@ -4,5 +4,6 @@
 #![tactic(auto)]
 
 mod arguments;
+mod callee;
 mod calls;
 mod lines;

@@ -100,9 +100,10 @@ fn bracketed(alloc: Global, tokens: &Tokens<'_>, from: usize) -> Result<(Ending,
     Ok((Ending::Closed, at))
 }
 
-/// The place behind `( .. )`.
+/// The place behind `( .. )`, whatever stands within, where its brackets match. A fault stands at the first token with
+/// which no such text goes on; memory is taken for the brackets that are open.
 #[tactic(auto, unfolding(crate::specs::WordsReading::parentheses_at))]
-pub(crate) fn parentheses(
+pub fn parentheses(
     alloc: Global,
     tokens: &Tokens<'_>,
     from: usize,
