@@ -23,3 +23,4 @@ pub mod CallTellers
 pub mod CallChains
 pub mod DroppedCalls
 pub mod WholeFunctions
+pub mod DefinedAt

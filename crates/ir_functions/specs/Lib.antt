@@ -3,3 +3,4 @@ pub mod Arguments
 pub mod Calls
 pub mod Lines
 pub mod Functions
+pub mod Views

@@ -5,4 +5,6 @@
 
 mod arguments;
 mod calls;
+mod definitions;
 mod lines;
+mod signature;
