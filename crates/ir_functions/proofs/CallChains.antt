@@ -305,17 +305,17 @@ named_back has_result head name args after ms ts callee l =
               b.3.3,
               grouped {A = Listing SpellsRead listed.found} {B = the_sign 41}
                   {C = silent (SpellsTrailing behind.read)} b.1 b.3.1 (
-                c.0,
-                c.1,
-                c.2,
-                (
-                  c.3.0,
-                  c.3.1,
-                  c.3.2,
-                  listed.read,
-                  (d.0, d.1, d.2, (d.3.0, d.3.1, d.3.2, d.3.3, (words.0, behind.spelled))),
-                ),
-              ),
+                    c.0,
+                    c.1,
+                    c.2,
+                    (
+                      c.3.0,
+                      c.3.1,
+                      c.3.2,
+                      listed.read,
+                      (d.0, d.1, d.2, (d.3.0, d.3.1, d.3.2, d.3.3, (words.0, behind.spelled))),
+                    ),
+                  ),
             ),
           ),
         ),
@@ -363,8 +363,7 @@ back_of has_result ret name args words ms ts l =
     (make_call head name b.found) =
     ap (λ (operation : Operation). (Some operation, tail_of b.found.1))
     (same_call head name args words spelled.3 spelled.2 b.found.0 b.found.1.0.1 spelled.4 spelled.5 b.same_args
-    b.same_after) in
-    (
+    b.same_after) in (
       tail_of b.found.1,
       (
         head,

@@ -101,30 +101,87 @@ sample_spelled before l = (
       refl,
       inl refl,
       (
-        [], [], refl,
-        (before, sample_tokens, refl, (refl, (refl, l)), (
-          [], [], refl,
-          (word (codes "call") ∷ [], _, refl, (refl, refl), (
-            [], [], refl,
-            ([], _, refl, (refl, (([], refl), refl)), (
-              [], [], refl,
-              (word (codes "void") ∷ [], _, refl, (refl, (tt, refl)), (
-                [], [], refl,
-                (global (codes "a") ∷ [], _, refl,
-                (refl, (global (codes "a"), refl, (refl, codes "a", refl, inl (refl, refl)))), (
-                  [], [], refl,
-                  (sign 40 ∷ [], _, refl, (refl, refl), (
-                    [], [], refl,
-                    ([], _, refl, (refl, refl), (
-                      [], [], refl,
-                      (sign 41 ∷ [], [], refl, (refl, refl), (refl, (([], refl), refl))),
-                    )),
-                  )),
-                )),
-              )),
-            )),
-          )),
-        )),
+        [],
+        [],
+        refl,
+        (
+          before,
+          sample_tokens,
+          refl,
+          (refl, (refl, l)),
+          (
+            [],
+            [],
+            refl,
+            (
+              word (codes "call") ∷ [],
+              _,
+              refl,
+              (refl, refl),
+              (
+                [],
+                [],
+                refl,
+                (
+                  [],
+                  _,
+                  refl,
+                  (refl, (([], refl), refl)),
+                  (
+                    [],
+                    [],
+                    refl,
+                    (
+                      word (codes "void") ∷ [],
+                      _,
+                      refl,
+                      (refl, (tt, refl)),
+                      (
+                        [],
+                        [],
+                        refl,
+                        (
+                          global (codes "a") ∷ [],
+                          _,
+                          refl,
+                          (refl, (global (codes "a"), refl, (refl, codes "a", refl, inl (refl, refl)))),
+                          (
+                            [],
+                            [],
+                            refl,
+                            (
+                              sign 40 ∷ [],
+                              _,
+                              refl,
+                              (refl, refl),
+                              (
+                                [],
+                                [],
+                                refl,
+                                (
+                                  [],
+                                  _,
+                                  refl,
+                                  (refl, refl),
+                                  (
+                                    [],
+                                    [],
+                                    refl,
+                                    (sign 41 ∷ [], [], refl, (refl, refl), (refl, (([], refl), refl))),
+                                  ),
+                                ),
+                              ),
+                            ),
+                          ),
+                        ),
+                      ),
+                    ),
+                  ),
+                ),
+              ),
+            ),
+          ),
+        ),
       ),
     )
 

@@ -1,7 +1,12 @@
 -- What the name at a place defines.
-use Rattle.std.proofs.Common.{◌≡◌, ℕ, ◌+◌, ◌≤◌, true, false, List, [], ◌∷◌, length, Option, Some, None, Ok, Err, refl, sym, ap, ◌∙◌}
+use Rattle.std.proofs.Common.{◌≡◌, ℕ, ◌+◌, ◌≤◌, true, false, List, [], ◌∷◌, ◌++◌, length, Option, Some, None, Ok, Err, refl, sym, ap, ◌∙◌}
 use Rattle.std.specs.Option.{is_some}
+use Rattle.ir_model.specs.declared.types.IrType.{IrType}
+use Rattle.ir_model.specs.declared.types.IrType.TheVariants.{Int, Ptr}
 use Rattle.ir_text.specs.Tokens.{Lexeme}
+use Rattle.ir_text.specs.Types.{IsScalar, SpellsTypeOf}
+use Rattle.ir_parts.specs.TypeReading.{scalar_type_at}
+use Rattle.ir_parts.proofs.TypeReaders.{scalar_types}
 use Rattle.ir_text.specs.Written.{Name}
 use Rattle.ir_text.specs.Said.{said_local}
 use Rattle.ir_text.specs.Mentions as mention
@@ -47,3 +52,20 @@ unfolding defined_at
 no_definition t at isnt within =
     one_not_given t at (λ t. told_definition (said_local t))
     (told_first (left_from t at) ∙ told_none (first_given said_local (left_from t at)) isnt) within
+
+-- ---- what begins with a type
+
+scalar_no_name : (kind : IrType) (taken rest : List Lexeme) → SpellsTypeOf IsScalar kind taken
+    → first_given said_local (taken ++ rest) ≡ None
+unfolding said_local
+scalar_no_name (Int width) taken rest l = rw (l.1.1, l.1.2.0) refl
+scalar_no_name Ptr taken rest l = rw l.1 refl
+scalar_no_name _ taken rest l = absurd l.0
+
+-- No name stands where a type was read.
+pub type_no_name : (t : Tokenized) (at : ℕ) (kind : IrType) (rest : List Lexeme)
+    → scalar_type_at (left_from t at) ≡ Ok (kind, rest) → said_at said_local t at ≡ None
+type_no_name t at kind rest e =
+    let taken = scalar_types.takes (left_from t at) rest kind e in
+    said_first said_local (lexemes t) at
+    ∙ (ap (first_given said_local) taken.parts ∙ scalar_no_name kind taken.taken rest taken.spelled)

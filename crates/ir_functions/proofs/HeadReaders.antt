@@ -141,13 +141,19 @@ dropped_flag text ts (inr l) = (false, l)
 
 head_there : (head : CallHead) (ts : List Lexeme) → FromParts head ts → SpellsHead head ts
 head_there head ts (p, made, (us, vs, parts, (flags, same), (ws, xs, split, call, (ys, zs, halves, said, kind)))) =
-    subst (λ (head : CallHead). SpellsHead head ts) (sym made)
-    (
-      us, vs, parts,
+    subst (λ (head : CallHead). SpellsHead head ts) (sym made) (
+      us,
+      vs,
+      parts,
       (
         ap passed_text same,
-        (flags.0, flags.1, flags.2, flag_dropped (codes "tail") p.0.0.0 flags.0 flags.3,
-        flag_dropped (codes "notail") p.0.0.1 flags.1 flags.4),
+        (
+          flags.0,
+          flags.1,
+          flags.2,
+          flag_dropped (codes "tail") p.0.0.0 flags.0 flags.3,
+          flag_dropped (codes "notail") p.0.0.1 flags.1 flags.4,
+        ),
       ),
       (ws, xs, split, call, (ys, zs, halves, text_of_words p.1.0.1 ys (p.1.0, refl, said), kind)),
     )
@@ -156,13 +162,14 @@ head_back : (head : CallHead) (ts : List Lexeme) → SpellsHead head ts → From
 head_back head ts (us, vs, parts, (text, flags), (ws, xs, split, call, (ys, zs, halves, before, kind))) =
     let tail = dropped_flag (codes "tail") flags.0 flags.3 in
     let notail = dropped_flag (codes "notail") flags.1 flags.4 in
-    let said = words_of_text head.before ys before in
-    (
+    let said = words_of_text head.before ys before in (
       (((tail.0, notail.0), us), (said.0, head.ret)),
       ap (λ (tail : List ℕ). record { tail = tail; before = head.before; ret = head.ret }) text
           ∙ ap (λ (before : List ℕ). record { tail = passed_text us; before = before; ret = head.ret }) (sym said.1),
       (
-        us, vs, parts,
+        us,
+        vs,
+        parts,
         ((flags.0, flags.1, flags.2, tail.1, notail.1), refl),
         (ws, xs, split, call, (ys, zs, halves, said.2, kind)),
       ),

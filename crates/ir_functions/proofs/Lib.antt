@@ -24,3 +24,4 @@ pub mod CallChains
 pub mod DroppedCalls
 pub mod WholeFunctions
 pub mod DefinedAt
+pub mod LabelAt

@@ -3,9 +3,9 @@
 ghost use Rattle.std.specs.Prelude.{◌≡◌, ◌+◌, ◌^◌, ◌<◌, ◌≤◌, length, IfOk, IsTrue};
 ghost use Rattle.std.specs.Option.{is_some};
 ghost use Rattle.ir_text.specs.Said.{said_local};
-ghost use Rattle.ir_parts.specs.Reading.{left_from, first_given, ReadsAs};
+ghost use Rattle.ir_parts.specs.Reading.{left_from, first_given, begins, ReadsAs};
 ghost use Rattle.ir_parts.specs.Places.{mentions_at};
-ghost use Rattle.ir_functions.specs.Lines.{defined_at};
+ghost use Rattle.ir_functions.specs.Lines.{defined_at, is_local};
 ghost use Rattle.ir_functions.specs.Views.{bare_value, definition_sites};
 
 use ir_lex::Tokens;
@@ -30,6 +30,7 @@ pub(crate) fn definition(tokens: &Tokens<'_>, from: usize) -> Result<(ValueId, u
 /// Whether the token at a place is `%name`.
 pub(crate) fn starts_local(tokens: &Tokens<'_>, from: usize) -> bool
     ensures value { result ≡ is_some (first_given said_local (left_from tokens.now from)) }
+    ensures first { result ≡ begins is_local (left_from tokens.now from) }
     ensures within { IsTrue result → (from < length tokens.now.tokens) × (from + 1 < 2 ^ 64) }
 {
     match next(tokens, from) {

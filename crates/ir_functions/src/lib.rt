@@ -6,5 +6,7 @@
 mod arguments;
 mod calls;
 mod definitions;
+mod labels;
 mod lines;
+mod params;
 mod signature;
