@@ -28,3 +28,5 @@ pub mod MinimumNames
 pub mod TailAt
 pub mod CalleeAt
 pub mod BehindAt
+pub mod DefinedAt
+pub mod LabelAt

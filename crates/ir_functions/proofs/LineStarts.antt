@@ -61,7 +61,6 @@ ends_lines t piece number label sign = record {
     no_sign : (b : ℕ) → is_punctuation b t ≡ false
     no_sign b = rw (sign b) refl
 
-
 -- ---- records
 
 group_kind : (kind : TokenKind) → is_group_kind kind ≡ true → kind ≡ Group

@@ -247,8 +247,18 @@ record IsReadParam (param : Param) (ms : List Mention) (ts : List Lexeme) : Type
   spelled : SpellsParts (param.kind, (words, (param.value, named))) ms ts
 
 is_read : (param : Param) (ms : List Mention) (ts : List Lexeme) → SpellsParam param ms ts → IsReadParam param ms ts
-is_read param ms ts (before, behind, whole, (us, vs, parts, kind,
-    (none, named, all, (ws, ns, both, (empty, (pieces, text)), (zero, inl name)))))
+is_read param ms ts (
+  before,
+  behind,
+  whole,
+  (
+    us,
+    vs,
+    parts,
+    kind,
+    (none, named, all, (ws, ns, both, (empty, (pieces, text)), (zero, inl name))),
+  ),
+)
     = record {
       words = (run_of pieces.0, param.words);
       named = true;
@@ -260,8 +270,18 @@ is_read param ms ts (before, behind, whole, (us, vs, parts, kind,
         (us, vs, parts, kind, (ws, ns, both, (pieces.0, pieces.1, refl, text), inl (refl, (zero, name)))),
       );
     }
-is_read param ms ts (before, behind, whole, (us, vs, parts, kind,
-    (none, named, all, (ws, ns, both, (empty, (pieces, text)), (zero, inr name)))))
+is_read param ms ts (
+  before,
+  behind,
+  whole,
+  (
+    us,
+    vs,
+    parts,
+    kind,
+    (none, named, all, (ws, ns, both, (empty, (pieces, text)), (zero, inr name))),
+  ),
+)
     = record {
       words = (run_of pieces.0, param.words);
       named = false;

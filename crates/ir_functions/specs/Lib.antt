@@ -4,3 +4,4 @@ pub mod Calls
 pub mod Lines
 pub mod Functions
 pub mod ArgumentViews
+pub mod Views

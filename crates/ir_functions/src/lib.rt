@@ -6,4 +6,8 @@
 mod arguments;
 mod callee;
 mod calls;
+mod definitions;
+mod labels;
 mod lines;
+mod params;
+mod signature;
