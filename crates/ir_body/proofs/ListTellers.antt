@@ -56,8 +56,11 @@ gep_tells = made_told make_gep (NoComma tt)
       first_begins_not (is_keyword (codes "inbounds")) (stored_begins_not (codes "inbounds") inbounds_apart read.0),
       (
         first_begins_not (is_keyword (codes "nuw")) (stored_begins_not (codes "nuw") (λ digits all. refl) read.0),
-        (first_begins_not (is_keyword (codes "nusw"))
-        (stored_begins_not (codes "nusw") (λ digits all. refl) read.0), tt),
+        (
+          first_begins_not (is_keyword (codes "nusw"))
+              (stored_begins_not (codes "nusw") (λ digits all. refl) read.0),
+          tt,
+        ),
       ),
     )))
 

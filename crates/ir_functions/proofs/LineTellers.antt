@@ -93,8 +93,15 @@ defined_tells = record {
       (one_reads (λ t. told_definition (said_local t)) (λ told t. told_definition (said_local t) ≡ Some told)
       (λ told t e. e) (λ told t e. e)
       (record { 0 = 0 }, DefinesValue (Some (Text (codes "a"))) ∷ []) (local (codes "a"))
-      (ap told_definition (local_back (Text (codes "a")) (local (codes "a")) (refl, codes "a", refl, inl (is_a,
-      refl)))));
+      (ap told_definition (local_back (Text (codes "a")) (local (codes "a")) (
+        refl,
+        codes "a",
+        refl,
+        inl (
+          is_a,
+          refl,
+        ),
+      ))));
 }
   where
     is_a : IsTrue (is_word (codes "a"))

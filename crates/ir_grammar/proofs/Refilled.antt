@@ -282,7 +282,7 @@ pub same_body : (f g : Function) → map bare_param f.params ≡ map bare_param 
 same_body f g params blocks ids =
     let both : ((f.params, f.blocks), []) ≡ ((g.params, g.blocks), []) =
     sym (body_restored f) ∙ (ap (λ (ps : List Param). refill_body (ps, map bare_block f.blocks) (function_sites f))
-        params
+    params
     ∙ (ap (λ (bs : List Block). refill_body (map bare_param g.params, bs) (function_sites f)) blocks
     ∙ (ap (refill_body (map bare_param g.params, map bare_block g.blocks)) ids ∙ body_restored g))) in (
       ap (λ (b : (List Param × List Block) × List Site). b.0.0) both,

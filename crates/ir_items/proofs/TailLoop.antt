@@ -37,7 +37,7 @@ run_next most (t ∷ ts) e =
     let parts = and_parts (is_punctuation 44 t) (not (begins is_metadata_word ts)) e in
     let other : begins is_metadata_word ts ≡ false = not_true (begins is_metadata_word ts) parts.1 in
     rw parts.0 (chosen_other is_metadata_word attached_runs_at (words_at >>= λ run. made (with_run run) (most_at most))
-        ts
+    ts
     other)
   where
     not_true : (b : Bool) → not b ≡ true → b ≡ false
@@ -45,8 +45,10 @@ run_next most (t ∷ ts) e =
     not_true false e = refl
 
 -- nothing
-none_next : (most : ℕ) (ts : List Lexeme) → begins (is_punctuation 44) ts ≡ false → most_at most ts ≡ Ok (([], false),
-    ts)
+none_next : (most : ℕ) (ts : List Lexeme) → begins (is_punctuation 44) ts ≡ false → most_at most ts ≡ Ok (
+  ([], false),
+  ts,
+)
 unfolding behind_comma_at
 none_next most ts e = chosen_other (is_punctuation 44) (punctuation_at 44 ▷ runs_most_at most) (pure ([], false)) ts e
 
@@ -57,7 +59,7 @@ unfolding behind_comma_at runs_most_at some_attached_at attached_runs_at token_a
 attached_next most [] e passed = absurd cc
 attached_next most (t ∷ ts) e passed =
     let word : begins is_metadata_word ts ≡ true = is_true (is_punctuation 44 t) (begins is_metadata_word ts) passed e
-        in
+    in
     rw passed (of_most most word ∙ regroup (bare_attachment_at ts))
   where
     is_true : (a b : Bool) → a ≡ true → (a && not b) ≡ false → b ≡ true
@@ -114,7 +116,7 @@ module _ (t : Tokenized) (from : ℕ) where
   regroup earlier run (Err left) = refl
   regroup earlier run (Ok read) =
       ap (λ (runs : List (Run × List ℕ)). Ok ((runs, read.0.1), read.1)) (sym (append_assoc earlier (run ∷ [])
-          read.0.0))
+      read.0.0))
 
   more_texts : (earlier : List (Run × List ℕ)) (run : Run × List ℕ)
       → map (λ (run : Run × List ℕ). run.1) earlier ++ run.1 ∷ [] ≡ map (λ (run : Run × List ℕ). run.1) (earlier ++ run

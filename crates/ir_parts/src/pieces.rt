@@ -103,11 +103,7 @@ fn bracketed(alloc: Global, tokens: &Tokens<'_>, from: usize) -> Result<(Ending,
 /// The place behind `( .. )`, whatever stands within, where its brackets match. A fault stands at the first token with
 /// which no such text goes on; memory is taken for the brackets that are open.
 #[tactic(auto, unfolding(crate::specs::WordsReading::parentheses_at))]
-pub fn parentheses(
-    alloc: Global,
-    tokens: &Tokens<'_>,
-    from: usize,
-) -> Result<usize, ItemFault>
+pub fn parentheses(alloc: Global, tokens: &Tokens<'_>, from: usize) -> Result<usize, ItemFault>
     requires { from ≤ length tokens.now.tokens }
     ensures value { Passes tokens.now result (parentheses_at (left_from tokens.now from)) }
     ensures forth { IfOk result (λ at. (from < at) × (at ≤ length tokens.now.tokens)) }

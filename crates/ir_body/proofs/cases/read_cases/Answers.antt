@@ -26,8 +26,11 @@ loop-cases-init c = record {
 pub loop-cases-preserved : goal.loop-cases-preserved
 loop-cases-preserved c =
     let so_far = c.loop-cases.invariant.reading in
-    let told : Case × List Mention = (bare_case c.in_ok-next.next, mentions_at c.args.tokens.now (case_sites
-        c.in_ok-next.next)) in
+    let told : Case × List Mention = (
+      bare_case c.in_ok-next.next,
+      mentions_at c.args.tokens.now (case_sites
+          c.in_ok-next.next),
+    ) in
     record {
       reading = rw c.in_ok-push.ensures.ok (
         so_far.0 ++ told ∷ [],

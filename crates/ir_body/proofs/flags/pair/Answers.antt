@@ -11,7 +11,7 @@ pub returns-then-starts_keyword-2-clause-value : goal.returns-then-starts_keywor
 returns-then-starts_keyword-2-clause-value c =
     other_first c.args.tokens.now c.args.from c.args.one.now c.args.other.now c.requires.apart
     c.read_flag-set-then-starts_keyword-2.result.0 _ (sym c.if-starts_keyword-2.ensures.value)
-        c.read_flag-set-then-starts_keyword-2.ensures.value
+    c.read_flag-set-then-starts_keyword-2.ensures.value
 
 pub returns-clause-value : goal.returns-clause-value
 returns-clause-value c =

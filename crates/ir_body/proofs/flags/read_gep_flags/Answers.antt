@@ -10,13 +10,13 @@ returns-then-starts_keyword-clause-value c =
 pub returns-then-starts_keyword-2-clause-value : goal.returns-then-starts_keyword-2-clause-value
 returns-then-starts_keyword-2-clause-value c =
     gep_first c.args.tokens.now c.args.from (codes "nuw") (codes "inbounds") (codes "nusw") _ _
-        c.pair-at-then-starts_keyword-2.result.0.0
+    c.pair-at-then-starts_keyword-2.result.0.0
     refl refl (λ found is. is) (sym c.if-starts_keyword-2.ensures.value) c.pair-at-then-starts_keyword-2.ensures.value
 
 pub returns-then-starts_keyword-3-clause-value : goal.returns-then-starts_keyword-3-clause-value
 returns-then-starts_keyword-3-clause-value c =
     gep_first c.args.tokens.now c.args.from (codes "nusw") (codes "inbounds") (codes "nuw") _ _
-        c.pair-at-then-starts_keyword-3.result.0.0
+    c.pair-at-then-starts_keyword-3.result.0.0
     refl refl (λ found is. is) (sym c.if-starts_keyword-3.ensures.value) c.pair-at-then-starts_keyword-3.ensures.value
 
 pub returns-clause-value : goal.returns-clause-value

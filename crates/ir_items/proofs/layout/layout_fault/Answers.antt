@@ -6,14 +6,14 @@ use Rattle.ir_items.proofs.layout.layout_fault.Goals as goal
 pub returns-in-Some : goal.returns-in-Some
 returns-in-Some c =
     let first = the_first c.args.text.now c.first_part-spec.result.now c.specifications.from c.first_part-spec.ensures
-        in
+    in
     fault_here c.args.text.now (drop c.specifications.from c.args.text.now) c.specifications.from c.in-Some.word
     c.specifications.invariant.faults (sym (c.in-Some.ensures ∙ ap left_out first))
 
 pub returns-then-end-text : goal.returns-then-end-text
 returns-then-end-text c =
     let first = the_first c.args.text.now c.first_part-spec.result.now c.specifications.from c.first_part-spec.ensures
-        in
+    in
     let reaches = all_first c.args.text.now c.specifications.from
     (omega (arith, c.if-end-text.true, ap length first)) in
     no_fault c.args.text.now (drop c.specifications.from c.args.text.now) c.specifications.from
@@ -22,7 +22,7 @@ returns-then-end-text c =
 pub specifications-preserved : goal.specifications-preserved
 specifications-preserved c =
     let first = the_first c.args.text.now c.first_part-spec.result.now c.specifications.from c.first_part-spec.ensures
-        in
+    in
     let parts = more_behind c.args.text.now c.specifications.from
     (omega (arith, c.if-end-text.false, ap length first)) in
     record {
