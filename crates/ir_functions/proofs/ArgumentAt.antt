@@ -58,7 +58,8 @@ first_left t at within = of_list (left_from t at) refl
   where
     of_list : (ts : List Lexeme) → left_from t at ≡ ts
         → (first : Lexeme) × (left_from t at ≡ first ∷ left_from t (at + 1))
-    of_list [] e = absurd (let none : length (left_from t at) ≡ 0 = ap length e in omega (arith, length_left t at, none))
+    of_list [] e = absurd
+        (let none : length (left_from t at) ≡ 0 = ap length e in omega (arith, length_left t at, none))
     of_list (first ∷ rest) e = (
       first,
       e ∙ ap (λ (rest : List Lexeme). first ∷ rest)
@@ -111,7 +112,8 @@ run_end t from end forth within =
 -- the text before the last token
 pub words_before : (t : Tokenized) (from end : ℕ) (text : List ℕ) → from < end → end ≤ length t.tokens
     → text ≡ passed_text (take (end - 1 - from) (left_from t from))
-    → text ≡ passed_text (take (length (take (end - from) (left_from t from)) - 1) (take (end - from) (left_from t from)))
+    → text ≡ passed_text (take (length (take (end - from) (left_from t from)) - 1)
+    (take (end - from) (left_from t from)))
 words_before t from end text forth within e =
     let run = run_end t from end forth within in
     let before = take (end - 1 - from) (left_from t from) in

@@ -99,8 +99,8 @@ outer_read kind read t rest value outer e =
     ∙ (ap (made_of t rest) e
     ∙ ap (λ (ms : List Mention). Ok ((argument_of kind read.1 value.0 None, ms), rest)) (append-nil value.1))
   where
-    made_of : Lexeme → List Lexeme → Option (Operand × List Mention) → Result ((Argument × List Mention) × List Lexeme)
-        ℕ
+    made_of : Lexeme → List Lexeme → Option (Operand × List Mention)
+        → Result ((Argument × List Mention) × List Lexeme) ℕ
     made_of t rest found = go_on (given found rest (suc (length rest))) (λ read_value others.
         Ok ((argument_of kind read.1 read_value.0 None, read_value.1 ++ []), others))
 

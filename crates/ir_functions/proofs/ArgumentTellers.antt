@@ -51,8 +51,8 @@ run_ends ts run middle t = ap (λ (run : Run). run.ending) t.spelled.0.2
 -- ---- taking
 
 -- what doesn't go on with a run takes no part in it
-no_numeral : (ending : Ending) (t : Lexeme) → belongs_to ending t ≡ false → (takes_numeral ending && is_numeral t) ≡
-    false
+no_numeral : (ending : Ending) (t : Lexeme) → belongs_to ending t ≡ false
+    → (takes_numeral ending && is_numeral t) ≡ false
 no_numeral Placing t e = (or_neither (is_punctuation 40 t) (is_numeral t) e).1
 no_numeral Empty t e = refl
 no_numeral Word t e = refl
@@ -167,8 +167,8 @@ behind_takes kind ts rest read e =
     let t = with_tokens_read.takes ts b.middle b.value b.first in
     elim (either (begins is_outer b.middle)) [
       | inl outer ↦ outer_taken kind ts b.value b.middle rest read t outer b.second
-      | inr none ↦ inner_taken kind ts b.value b.middle rest read t none (inner_operand b.value.0.ending b.value.1)
-          refl b.second
+      | inr none ↦
+          inner_taken kind ts b.value b.middle rest read t none (inner_operand b.value.0.ending b.value.1) refl b.second
     ]
 
 -- ---- reading what is spelled
@@ -272,8 +272,8 @@ behind_reads kind read taken rest l stops = of_inner (inner_of (ending_of_last l
     of_inner (Some ending) e =
         inner_reads kind read taken rest ending l
         (with_operand l.pieces l.words l.last l.value ending l.are_pieces l.operand e)
-        (subst (λ (read : Argument × List Mention). StopsAt (StopsArgument read) rest) (with_inner (Some ending) e)
-        stops)
+        (subst (λ (read : Argument × List Mention). StopsAt (StopsArgument read) rest)
+        (with_inner (Some ending) e) stops)
         ∙ ap (λ (read : Argument × List Mention). Ok (read, rest)) (sym (with_inner (Some ending) e))
 
 -- ---- refusing
@@ -343,8 +343,8 @@ behind_refuses : (kind : IrType) (ts : List Lexeme) (left : ℕ) → behind_type
 unfolding behind_type_at
 behind_refuses kind ts left e = elim (one_refused (with_tokens_at ts) (argument_behind_at kind) left e) [
   | inl refused ↦ run_refuses kind ts left (with_tokens_read.refuses ts left refused)
-  | inr b ↦ of_outer (begins is_outer b.middle) b.value b.middle (with_tokens_read.takes ts b.middle b.value b.first)
-      refl
+  | inr b ↦
+      of_outer (begins is_outer b.middle) b.value b.middle (with_tokens_read.takes ts b.middle b.value b.first) refl
       (inner_operand b.value.0.ending b.value.1) refl b.second
 ]
   where

@@ -190,8 +190,8 @@ named_there has_result head name p ms ts l =
 called : (has_result : Bool) (head : CallHead) (name : List ℕ) (p : List Argument × Behind)
     (ms : List Mention) (ts : List Lexeme) → (silent (SpellsHead head) ⊙ WithNamed has_result head name p) ms ts
     → IsCallee head.ret name
-called has_result head name p ms ts l = let token = l.3.4.3.3.1 in (named_read has_result head.ret name token.0
-    token.2).1
+called has_result head name p ms ts l =
+    let token = l.3.4.3.3.1 in (named_read has_result head.ret name token.0 token.2).1
 
 -- the texts of the arguments
 same_words : (args : List Argument) → map (λ (arg : Argument). arg.words) args

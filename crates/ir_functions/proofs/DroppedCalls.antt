@@ -165,8 +165,8 @@ dropped_there tail ms ts l =
         let b = inner.3.4 in
         let behind = silent_joined {A = one (IsRead false head.ret Dropped)} {B = DroppedParts b.0} l.1 l.3.1
         (inner.0, inner.1, inner.2, (inner.3.0, inner.3.1, inner.3.2, inner.3.3, b.2)) in
-        let whole = silent_joined {A = SpellsHead head} {B = one (IsRead false head.ret Dropped) · DroppedParts b.0} ms
-        ts
+        let whole = silent_joined {A = SpellsHead head}
+        {B = one (IsRead false head.ret Dropped) · DroppedParts b.0} ms ts
         (l.0, l.1, l.2, (l.3.0, l.3.1, l.3.2, l.3.3, behind)) in
         (whole.0, dropped_is head b.0 ts whole.1)
 

@@ -109,10 +109,8 @@ head_of p = record { tail = passed_text p.0.1; before = p.1.0.1; ret = p.1.1 }
 
 -- The same is read by `head_at`.
 same_head : (r : Result (((Bool × Bool) × List Lexeme) × List Lexeme) ℕ) (b : Read ((Run × List ℕ) × IrType))
-    → go_on {A = List ℕ × ((Run × List ℕ) × IrType)} (go_on {A = List ℕ} (go_on r (λ p rest. Ok (
-      passed_text p.1,
-      rest,
-    )))
+    → go_on {A = List ℕ × ((Run × List ℕ) × IrType)}
+    (go_on {A = List ℕ} (go_on r (λ p rest. Ok (passed_text p.1, rest)))
     (λ tail. b >>= λ p. pure (tail, p)))
     (λ p rest. Ok (record { tail = p.0; before = p.1.0.1; ret = p.1.1 }, rest))
     ≡ go_on {A = Parts} (go_on r (λ flags. b >>= λ p. pure (flags, p))) (λ p rest. Ok (head_of p, rest))

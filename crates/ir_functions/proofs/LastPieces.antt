@@ -18,13 +18,8 @@ use Rattle.ir_parts.proofs.PieceTokens.{IsPassed, passed_there}
 
 pub one_more : (pieces : List (List Lexeme)) (us piece : List Lexeme) → ArePieces pieces us → IsPiece piece
     → ArePieces (pieces ++ piece ∷ []) (us ++ piece)
-one_more [] us piece l is = (
-  piece,
-  [],
-  ap (λ (us : List Lexeme). us ++ piece) l ∙ sym (append-nil piece),
-  (refl, is),
-  refl,
-)
+one_more [] us piece l is =
+    (piece, [], ap (λ (us : List Lexeme). us ++ piece) l ∙ sym (append-nil piece), (refl, is), refl)
 one_more (first ∷ pieces) us piece l is = (
   l.0,
   l.1 ++ piece,

@@ -71,7 +71,8 @@ fn behind_run(
 ) -> Result<(Argument, usize), ItemFault>
     requires { (from ≤ end) × (end ≤ length tokens.now.tokens) }
     ensures value { ReadsAs (λ arg. (bare_argument arg, mentions_at tokens.now (argument_sites arg))) tokens.now
-        result (argument_behind_at kind (said, take (end - from) (left_from tokens.now from)) (left_from tokens.now end)) }
+        result (argument_behind_at kind (said, take (end - from) (left_from tokens.now from))
+        (left_from tokens.now end)) }
     ensures forth { IfOk result (λ read. (from ≤ read.1) × (read.1 ≤ length tokens.now.tokens)) }
 {
     if starts_outer(tokens, end) {

@@ -8,7 +8,8 @@ use Rattle.ir_functions.proofs.callee.writes.Goals as goal
 pub returns-then-end-eq0 : goal.returns-then-end-eq0
 returns-then-end-eq0 c = elim c.then-end-eq0.branch [
   | then-end-eq0-via-then-end-eq0 w ↦
-      sym (c.digits.invariant.2 ∙ (ap (λ (n : ℕ). bytes_eq (take n c.args.digits.now) (decimal c.digits.rest)) w.if-end-eq0.true
+      sym (c.digits.invariant.2 ∙ (ap (λ (n : ℕ). bytes_eq (take n c.args.digits.now) (decimal c.digits.rest))
+      w.if-end-eq0.true
       ∙ no_digits c.args.digits.now c.digits.rest c.digits-test.true c.digits.invariant.1))
   | then-end-eq0-via-else-end-eq0+then-digits-end w ↦
       sym (c.digits.invariant.2 ∙ wrong_digit c.args.digits.now c.digits.end c.digits.rest c.digits-test.true

@@ -9,8 +9,8 @@ use Rattle.ir_functions.proofs.calls.read_callee.Goals as goal
 pub returns-in_err-name-clause-value : goal.returns-in_err-name-clause-value
 returns-in_err-name-clause-value c =
     let p = err_from_is_err_and c.from_residual.result c.from_residual.ensures.1 in
-    rw (p.1, p.2) (further_fault said_global (callee_named c.args.has_result c.args.ret.now) c.args.tokens.now c.args.from
-    c.in_err-name.field-0.0 c.in_err-name.ensures.value)
+    rw (p.1, p.2) (further_fault said_global (callee_named c.args.has_result c.args.ret.now) c.args.tokens.now
+    c.args.from c.in_err-name.field-0.0 c.in_err-name.ensures.value)
 
 pub returns-in-Some-clause-value : goal.returns-in-Some-clause-value
 returns-in-Some-clause-value c =
