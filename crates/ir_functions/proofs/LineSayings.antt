@@ -236,14 +236,13 @@ module _ {Chain : Bool → Option Operation × Option Ending → List Mention �
           ap (λ (ms : List Mention). let line : Line × List Mention =
               (record { instr = Some (instr_of (Some v) operation); tail = chain.0 }, ms) in line) mentions
               ∙ (ap (λ (v : ValueId). let line : Line × List Mention =
-              (record { instr = Some (instr_of (Some v) operation); tail = chain.0 }, DefinesValue None ∷ behind) in
-              line)
+              (record { instr = Some (instr_of (Some v) operation); tail = chain.0 }, DefinesValue None ∷ behind)
+              in line)
               (zero_id v id)
               ∙ ap (λ (p : Instr × List Mention). let line : Line × List Mention =
               (record { instr = Some p.0; tail = chain.0 }, p.1) in line) (sym same)),
-          subst (λ (ts : List Lexeme). SpellsChain op_at plain calls false (Some operation, chain.0) behind ts) (sym
-              all)
-              chain.1,
+          subst (λ (ts : List Lexeme). SpellsChain op_at plain calls false (Some operation, chain.0) behind ts)
+              (sym all) chain.1,
         )),
       )
 

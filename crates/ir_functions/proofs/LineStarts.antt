@@ -29,6 +29,7 @@ use Rattle.ir_parts.proofs.PieceReaders.{neither_or}
 use Rattle.ir_parts.proofs.RunReader.{belongs_to_none}
 use Rattle.ir_parts.proofs.MetadataReaders.{word_no_number}
 use Rattle.ir_body.specs.Opcodes.{begins_call}
+pub use Rattle.ir_body.specs.Operation.{IsNoCall}
 use Rattle.ir_parts.proofs.SaidNames.{local_there, local_back}
 use Rattle.ir_functions.specs.Silent.{is_record, is_record_text, is_group_kind}
 use Rattle.ir_functions.specs.Lines.{is_local}
@@ -156,14 +157,10 @@ cast_word cast.Zext = record { not_passed = refl; no_call = refl }
 cast_word cast.Sext = record { not_passed = refl; no_call = refl }
 cast_word cast.Trunc = record { not_passed = refl; no_call = refl }
 
--- a call, and what is none
+-- a call
 abbrev pub IsCall : Op → Type 0
 IsCall (Call ret callee args) = Unit {0}
 IsCall _ = ⊥
-
-abbrev pub IsNoCall : Op → Type 0
-IsNoCall (Call ret callee args) = ⊥
-IsNoCall _ = Unit {0}
 
 -- The tokens begin with such a word.
 pub record BeginsOp (ts : List Lexeme) : Type 0 where

@@ -69,8 +69,8 @@ record_begins line ms ts l =
     ap (begins is_record) (words.2 ∙ ap (λ (us : List Lexeme). us ++ words.1) words.3.1)
     ∙ record_back words.3.0 words.3.2
 
-record_begun : (t : Lexeme) (ts : List Lexeme) → is_record t ≡ true → record_line_at (t ∷ ts) ≡ Err (suc (length ts)) →
-    ⊥
+record_begun : (t : Lexeme) (ts : List Lexeme) → is_record t ≡ true → record_line_at (t ∷ ts)
+    ≡ Err (suc (length ts)) → ⊥
 record_begun t ts passed e = refused_there record_line_tells.reader [] ts t e (record {
   whole = (empty_line, []);
   others = sample_others;
@@ -93,15 +93,8 @@ defined_tells = record {
       (one_reads (λ t. told_definition (said_local t)) (λ told t. told_definition (said_local t) ≡ Some told)
       (λ told t e. e) (λ told t e. e)
       (record { 0 = 0 }, DefinesValue (Some (Text (codes "a"))) ∷ []) (local (codes "a"))
-      (ap told_definition (local_back (Text (codes "a")) (local (codes "a")) (
-        refl,
-        codes "a",
-        refl,
-        inl (
-          is_a,
-          refl,
-        ),
-      ))));
+      (ap told_definition
+      (local_back (Text (codes "a")) (local (codes "a")) (refl, codes "a", refl, inl (is_a, refl)))));
 }
   where
     is_a : IsTrue (is_word (codes "a"))
@@ -115,8 +108,8 @@ defined_tells = record {
         subst (λ (told : ValueId × List Mention). SpellsDefined told.0 told.1 ts) same
         (refl, (name, (refl, (t, e, local_there name t is))))
 
-    there : (told : ValueId × List Mention) (ts : List Lexeme) → one (λ t. told_definition (said_local t) ≡ Some told)
-        ts
+    there : (told : ValueId × List Mention) (ts : List Lexeme)
+        → one (λ t. told_definition (said_local t) ≡ Some told) ts
         → SpellsDefined told.0 told.1 ts
     there told ts l = of_said l.0 (said_local l.0) told ts l.1 refl l.2
 

@@ -81,8 +81,8 @@ blocks_at op_at = reading.made gathered (all_up_to_at 125 (block_at op_at))
 
 -- what stands before the parameters: words, the type, and the name
 unfoldable pub signature_at : Telling ((Run × List ℕ) × (IrType × List ℕ))
-signature_at = word_at (codes "define") ▷ silently words_at ⊗ (silently returned_type_at ⊗ silently (one_at
-    said_global))
+signature_at = word_at (codes "define") ▷ silently words_at
+    ⊗ (silently returned_type_at ⊗ silently (one_at said_global))
 
 -- and what stands behind them: words, and dropped metadata
 unfoldable pub opening_at : Telling (Run × List ℕ)

@@ -17,7 +17,10 @@ use scev_base::BlockId;
 pub(crate) fn block_name(tokens: &Tokens<'_>, from: usize) -> (BlockId, usize)
     requires { from ≤ length tokens.now.tokens }
     ensures value { block_name_at (left_from tokens.now from)
-        ≡ Ok ((record { 0 = 0 }, mentions_at tokens.now (DefinesBlock result.0.0 ∷ [])), left_from tokens.now result.1) }
+        ≡ Ok (
+          (record { 0 = 0 }, mentions_at tokens.now (DefinesBlock result.0.0 ∷ [])),
+          left_from tokens.now result.1,
+        ) }
     ensures forth { (from ≤ result.1) × (result.1 ≤ length tokens.now.tokens) }
 {
     if starts_label(tokens, from) {
