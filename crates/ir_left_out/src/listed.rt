@@ -8,8 +8,8 @@ ghost use Rattle.ir_left_out.specs.Named.{NumbersToken, NumbersText, first_texts
 use ir_lex::TokenKind;
 use ir_parts::{left_out_place, place_among};
 
-/// The first of the list. The last three of them are no tokens: two are specifications of data layouts, and one begins
-/// names.
+/// The first four of the list. The three behind them are no tokens: two are specifications of data layouts, and one
+/// begins names. Then come the words.
 const FIRST_TEXTS: [&[u8]; 4] = [b"ptr", b"{", b"<", b"..."];
 
 /// The number of a word or a sign of the list.
@@ -22,6 +22,7 @@ pub(crate) fn number_of(kind: TokenKind, text: &[u8]) -> Option<u16>
     }
 }
 
+/// The number of a text of the list.
 fn number_of_text(text: &[u8]) -> Option<u16>
     ensures { NumbersText text.now result }
 {
@@ -31,6 +32,7 @@ fn number_of_text(text: &[u8]) -> Option<u16>
     }
 }
 
+/// The number of a text that is among the first four.
 fn first_place(text: &[u8]) -> Option<u16>
     ensures { result ≡ position (λ each. bytes_eq each text.now) first_texts }
 {
@@ -40,6 +42,7 @@ fn first_place(text: &[u8]) -> Option<u16>
     }
 }
 
+/// The number of a word of the list.
 fn word_number(text: &[u8]) -> Option<u16>
     ensures { MatchOption result (position (λ each. bytes_eq each text.now) left_out_words ≡ None)
         (λ number. (place : ℕ) × (position (λ each. bytes_eq each text.now) left_out_words ≡ Some place)
