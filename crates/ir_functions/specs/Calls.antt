@@ -27,8 +27,8 @@ use Rattle.ir_functions.specs.Silent.{head_at, trailing_at, dropped_call_at}
 
 -- whether it is the name of a minimum or a maximum of this type
 abbrev pub is_minimum : IrType → List ℕ → Bool
-is_minimum (Int width) name = list_any (λ kind. bytes_eq name (codes "llvm." ++ (kind ++ (codes ".i" ++ decimal
-    width))))
+is_minimum (Int width) name =
+    list_any (λ kind. bytes_eq name (codes "llvm." ++ (kind ++ (codes ".i" ++ decimal width))))
     (codes "umin" ∷ codes "umax" ∷ codes "smin" ∷ codes "smax" ∷ [])
 is_minimum _ name = false
 

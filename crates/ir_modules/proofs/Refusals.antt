@@ -1,16 +1,15 @@
 -- Where all items of the tokens are read, and the tokens reach to the end, they make the module; else the text is
 -- refused where the items are, or where the tokens end.
-use Rattle.std.proofs.Common.{◌≡◌, ℕ, suc, ◌-◌, ◌≤◌, ◌<◌, List, [], ◌∷◌, ◌++◌, length, map, take, drop, Ok, Err, refl, sym, ap, subst, ◌∙◌, arith}
-use Rattle.std.proofs.lemmas.List.{append-nil, length-map, length-append, length-drop, take-append-drop, map-append}
-use Rattle.ir_model.specs.declared.item.Module.{Module}
+use Rattle.std.proofs.Common.{◌≡◌, ℕ, ◌-◌, ◌≤◌, ◌<◌, List, [], ◌∷◌, ◌++◌, length, take, drop, Ok, Err, sym, ap, subst, ◌∙◌, arith}
+use Rattle.std.proofs.lemmas.List.{append-nil, length-map, length-drop, take-append-drop, map-append}
 use Rattle.ir_text.specs.Tokens.{Lexeme, Placed, Lexed}
 use Rattle.ir_text.specs.Sites.{Draft}
 use Rattle.ir_grammar.specs.Items.{SpellsItems}
-use Rattle.ir_grammar.specs.Spelled.{lexemes_of, Spells, SpellsNone, Viable, IsRefusal}
+use Rattle.ir_grammar.specs.Spelled.{lexemes_of, SpellsNone, Viable, IsRefusal}
 use Rattle.ir_lex.proofs.OneLexing.{one_lexing}
 use Rattle.ir_parts.specs.Reading.{Read}
 use Rattle.ir_parts.proofs.Readers.{same_parts}
-use Rattle.ir_modules.proofs.ItemsRead.{ReadsItems, RefusedItems, none_goes_on, none_whole}
+use Rattle.ir_modules.proofs.ItemsRead.{ReadsItems, none_goes_on, none_whole}
 
 -- a bad byte before the end
 pub bad_byte : (bytes : List ℕ) (placed : List Placed) (end : ℕ) → Lexed 0 bytes placed end → end < length bytes
