@@ -13,7 +13,8 @@ use Rattle.ir_text.specs.Language.{one}
 use Rattle.ir_text.specs.Mentions.{Mention, Mentioning, ◌⊙◌, silent, InOrder}
 use Rattle.ir_grammar.specs.Operations.{SpellsNumber, SpellsCase, SpellsTyped, SpellsTarget, the_comma, the_sign}
 use Rattle.ir_parts.specs.Reading.{begins}
-use Rattle.ir_parts.proofs.Readers.{IsReader, Begins, Anything, of_language, of_stop, one_reads, begins_still, refused_there}
+use Rattle.ir_parts.proofs.Readers.{IsReader, Anything, of_language, of_stop, one_reads, begins_still}
+use Rattle.ir_parts.proofs.NoneGoesOn.{Begins, refused_there}
 use Rattle.ir_parts.proofs.Combined.{pure_reads}
 use Rattle.ir_parts.proofs.Repeated.{Behind, repeated}
 use Rattle.ir_parts.proofs.TypeReaders.{scalar_types}

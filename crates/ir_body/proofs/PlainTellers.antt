@@ -13,7 +13,8 @@ use Rattle.ir_text.specs.Listed.{word}
 use Rattle.ir_text.specs.Mentions.{Mention, Mentioning, ◌⊙◌, silent}
 use Rattle.ir_grammar.specs.Operations.{flag_kind, SpellsBinaryFlags, SpellsOperand, SpellsBlockName, SpellsTyped, SpellsTarget, SpellsTwo, the_word, the_comma, dropped_word, pred_text}
 use Rattle.ir_parts.specs.Reading.{Read, begins, is_keyword}
-use Rattle.ir_parts.proofs.Readers.{IsReader, Anything, chosen, refused_there}
+use Rattle.ir_parts.proofs.Readers.{IsReader, Anything, chosen}
+use Rattle.ir_parts.proofs.NoneGoesOn.{refused_there}
 use Rattle.ir_parts.proofs.SingleTokens.{is_itself, is_word}
 use Rattle.ir_body.specs.declared.operands.Two.{Two}
 use Rattle.ir_body.specs.declared.flags.Flags.{Flags}

@@ -3,9 +3,7 @@
 ghost use Rattle.std.specs.Prelude.{◌≡◌, ◌+◌, ◌^◌, ◌<◌, ◌≤◌, length, IfOk, IfErr, IfSome, IsTrue};
 ghost use Rattle.std.specs.Option.{option_map};
 ghost use Rattle.ir_parts.specs.declared.fault.ItemFault.TheVariants.{OutOfMemory};
-ghost use Rattle.ir_parts.specs.Reading.{left_from, first_given, begins, Reads, ReadsAs};
-ghost use Rattle.ir_parts.specs.ListReading.{begins_part};
-ghost use Rattle.ir_parts.specs.MetadataReading.{is_metadata};
+ghost use Rattle.ir_parts.specs.Reading.{left_from, first_given, Reads, ReadsAs};
 ghost use Rattle.ir_parts.specs.Places.{mentions_at};
 ghost use Rattle.ir_body.specs.Aligned.{numeral_of, numeral_at, align_text, aligned, align_at, alignment_at, alloca_at, load_at, store_at};
 ghost use Rattle.ir_body.specs.Views.{bare_operation, operation_sites};
@@ -16,18 +14,10 @@ use ir_lex::{TokenKind, Tokens};
 use ir_model::{Op, Text};
 use ir_parts::{
     ItemFault, behind_keyword, behind_sign, next, read_int_type, read_stored_type, skip_metadata,
-    starts_sign,
+    starts_part,
 };
 use sqlite_items::Items;
 use std::alloc::Global;
-
-/// Whether a thing stands next, behind a comma: what begins with metadata there is an attachment.
-pub(crate) fn starts_part(tokens: &Tokens<'_>, from: usize) -> bool
-    ensures value { result ≡ begins_part (left_from tokens.now from) }
-    ensures within { IsTrue result → (from < length tokens.now.tokens) × (from + 1 < 2 ^ 64) }
-{
-    starts_sign(tokens, from, b',') && !starts_metadata(tokens, from + 1)
-}
 
 /// `align n`, as its text.
 #[tactic(auto, unfolding(crate::specs::Aligned::align_at))]
@@ -167,10 +157,4 @@ pub fn read_store(
     let (align, at) = alignment(alloc, tokens, at)?;
     let operation = with_align(alloc, Op::Store { kind, value, to }, align)?;
     Ok((operation, at))
-}
-
-fn starts_metadata(tokens: &Tokens<'_>, from: usize) -> bool
-    ensures value { result ≡ begins is_metadata (left_from tokens.now from) }
-{
-    matches!(next(tokens, from), Some((TokenKind::Metadata, _)))
 }

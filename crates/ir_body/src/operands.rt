@@ -15,7 +15,7 @@ use ir_lex::{TokenKind, Tokens};
 use ir_model::{IrType, Operand, TypedOperand};
 use ir_parts::{
     ItemFault, behind_keyword, behind_sign, is_global, is_local, next, numeral, read_scalar_type,
-    word_operand,
+    starts_local, word_operand,
 };
 use scev_base::{BlockId, ValueId};
 
@@ -94,17 +94,6 @@ pub fn read_block_name(tokens: &Tokens<'_>, from: usize) -> Result<(BlockId, usi
         Ok((BlockId(from as u64), from + 1))
     } else {
         Err(ItemFault::CannotGoOn { at_token: from })
-    }
-}
-
-/// Whether the token at a place is `%name`.
-fn starts_local(tokens: &Tokens<'_>, from: usize) -> bool
-    ensures value { result ≡ is_some (first_given said_local (left_from tokens.now from)) }
-    ensures within { IsTrue result → (from < length tokens.now.tokens) × (from + 1 < 2 ^ 64) }
-{
-    match next(tokens, from) {
-        Some((kind, text)) => is_local(kind, text),
-        None => false,
     }
 }
 

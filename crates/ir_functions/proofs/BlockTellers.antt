@@ -15,7 +15,8 @@ use Rattle.ir_text.specs.Mentions.{Mention, DefinesBlock, Mentioning, ◌⊙◌,
 use Rattle.ir_grammar.specs.Functions.{SpellsBlock}
 use Rattle.ir_parts.specs.declared.ending.Ending.{Ending}
 use Rattle.ir_parts.specs.Reading.{begins, is_punctuation, choose}
-use Rattle.ir_parts.proofs.Readers.{IsReader, Anything, of_language, of_reading, one_reads, chosen, refused_there}
+use Rattle.ir_parts.proofs.Readers.{IsReader, Anything, of_language, of_reading, one_reads, chosen}
+use Rattle.ir_parts.proofs.NoneGoesOn.{refused_there}
 use Rattle.ir_parts.proofs.Combined.{pure_reads}
 use Rattle.ir_parts.proofs.SaidNames.{label_there, label_back}
 use Rattle.ir_body.specs.declared.operation.Operation.{Operation}

@@ -14,7 +14,8 @@ use Rattle.ir_text.specs.PassedOn.{passed_text}
 use Rattle.ir_grammar.specs.Operations.{dropped_word, SpellsOp}
 use Rattle.ir_parts.specs.declared.ending.Ending.{Ending}
 use Rattle.ir_parts.specs.Reading.{begins}
-use Rattle.ir_parts.proofs.Readers.{Begins, chosen, refused_there}
+use Rattle.ir_parts.proofs.Readers.{chosen}
+use Rattle.ir_parts.proofs.NoneGoesOn.{Begins, refused_there}
 use Rattle.ir_body.specs.declared.operation.Operation.{Operation}
 use Rattle.ir_body.specs.Telling.{Telling, made}
 use Rattle.ir_body.specs.Opcodes.{begins_call}

@@ -17,7 +17,8 @@ use Rattle.ir_parts.specs.declared.ending.Ending.{Ending}
 use Rattle.ir_parts.specs.Reading.{begins, ◌▷◌}
 use Rattle.ir_parts.specs.WordsReading.{parentheses_at}
 use Rattle.ir_parts.specs.MetadataReading.{attachments_at}
-use Rattle.ir_parts.proofs.Readers.{IsReader, Anything, of_language, mapped, one_reads, chosen, refused_there}
+use Rattle.ir_parts.proofs.Readers.{IsReader, Anything, of_language, mapped, one_reads, chosen}
+use Rattle.ir_parts.proofs.NoneGoesOn.{refused_there}
 use Rattle.ir_parts.proofs.Combined.{behind_token}
 use Rattle.ir_parts.proofs.MetadataReaders.{NoComma, single, parentheses_read, attachments_read}
 use Rattle.ir_body.specs.declared.operation.Operation.{Operation}

@@ -20,7 +20,8 @@ use Rattle.ir_parts.specs.Reading.{Read, begins, is_punctuation, choose, pure, g
 use Rattle.ir_parts.specs.Reading as reading
 use Rattle.ir_parts.specs.WordsReading.{words_at}
 use Rattle.ir_parts.specs.Runs.{goes_on, run_of, SpellsRunText}
-use Rattle.ir_parts.proofs.Readers.{StopsAt, IsReader, Anything, of_language, of_reading, of_sentence_stop, mapped, refused_there}
+use Rattle.ir_parts.proofs.Readers.{StopsAt, IsReader, Anything, of_language, of_reading, of_sentence_stop, mapped}
+use Rattle.ir_parts.proofs.NoneGoesOn.{refused_there}
 use Rattle.ir_parts.proofs.Optional.{or_nothing}
 use Rattle.ir_parts.proofs.MaybeReader.{maybe_reads}
 use Rattle.ir_parts.proofs.SingleTokens.{is_sign}

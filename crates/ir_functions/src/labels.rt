@@ -1,16 +1,15 @@
 //! The labels of blocks.
 
-ghost use Rattle.std.specs.Prelude.{◌≡◌, ◌+◌, ◌-◌, ◌^◌, ◌<◌, ◌≤◌, [], ◌∷◌, length, take, IsTrue, Ok};
+ghost use Rattle.std.specs.Prelude.{◌≡◌, ◌+◌, ◌^◌, ◌<◌, ◌≤◌, [], ◌∷◌, length, IsTrue, Ok};
 ghost use Rattle.std.specs.Option.{is_some};
-ghost use Rattle.ir_text.specs.Said.{said, said_label};
+ghost use Rattle.ir_text.specs.Said.{said_label};
 ghost use Rattle.ir_text.specs.Sites.{DefinesBlock};
 ghost use Rattle.ir_parts.specs.Reading.{left_from, first_given};
 ghost use Rattle.ir_parts.specs.Places.{mentions_at};
 ghost use Rattle.ir_functions.specs.Functions.{block_name_at};
 
-use ir_lex::{TokenKind, Tokens};
-use ir_parts::{is_number, is_string_text, next};
-use ir_text::is_word;
+use ir_lex::Tokens;
+use ir_parts::{is_label, next};
 use scev_base::BlockId;
 
 /// The id of a block, which is the place where it begins, and the place behind its label, if one stands there.
@@ -39,29 +38,4 @@ fn starts_label(tokens: &Tokens<'_>, from: usize) -> bool
         Some((kind, text)) => is_label(kind, text),
         None => false,
     }
-}
-
-/// Whether a token is `name:`.
-#[tactic(auto, unfolding(ir_text::specs::Said::said_label))]
-fn is_label(kind: TokenKind, text: &[u8]) -> bool
-    ensures { result ≡ is_some (said_label (record { kind = kind; text = text.now })) }
-{
-    kind == TokenKind::Label && text.ends_with(b":".as_slice()) && is_name(before_last(text))
-}
-
-/// The text without its last byte.
-fn before_last(text: &[u8]) -> &[u8]
-    ensures { result.now ≡ take (length text.now - 1) text.now }
-{
-    match text.split_last() {
-        Some((_, rest)) => rest,
-        None => text,
-    }
-}
-
-#[tactic(auto, unfolding(ir_text::specs::Said::said))]
-fn is_name(written: &[u8]) -> bool
-    ensures { result ≡ is_some (said written.now) }
-{
-    is_word(written) || is_number(written) || is_string_text(written)
 }

@@ -7,10 +7,10 @@ ghost use Rattle.ir_parts.specs.Places.{said_at, mentions_at};
 ghost use Rattle.ir_functions.specs.Functions.{name_at, param_name_at, param_at};
 ghost use Rattle.ir_functions.specs.Views.{bare_name, name_sites, bare_read_param, param_sites};
 
-use crate::definitions::{definition, starts_local};
+use crate::definitions::definition;
 use ir_lex::Tokens;
 use ir_model::Param;
-use ir_parts::{Ending, ItemFault, read_scalar_type, words};
+use ir_parts::{Ending, ItemFault, read_scalar_type, starts_local, words};
 use scev_base::ValueId;
 use std::alloc::Global;
 

@@ -4,7 +4,8 @@ use Rattle.std.proofs.lemmas.List.{length-append}
 use Rattle.ir_text.specs.Tokens.{Lexeme}
 use Rattle.ir_text.specs.Language.{Language}
 use Rattle.ir_parts.specs.Reading.{Read}
-use Rattle.ir_parts.proofs.Readers.{IsReader, same_parts}
+use Rattle.ir_parts.proofs.Readers.{IsReader}
+use Rattle.ir_parts.proofs.NoneGoesOn.{same_parts}
 
 module _ {X : Type 0} (read : ℕ → Read X) (L : ℕ → X → Language) (Stop : X → Lexeme → Type 0)
     (each : (most : ℕ) → IsReader (read most) (L most) Stop)

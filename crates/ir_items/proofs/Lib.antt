@@ -9,7 +9,6 @@ pub mod Agreement
 pub mod Bounded
 pub mod Nested
 pub mod InitReader
-pub mod ChosenUntil
 pub mod RunEnds
 pub mod TailReaders
 pub mod TailReader

@@ -19,7 +19,8 @@ use Rattle.ir_parts.specs.Reading.{begins, one_at, is_keyword, is_punctuation}
 use Rattle.ir_parts.proofs.Readers.{IsReader, Anything, mapped, one_reads, chosen}
 use Rattle.ir_parts.proofs.Combined.{pure_reads, stands_for, not_at_first}
 use Rattle.ir_parts.proofs.SingleTokens.{keyword_reads}
-use Rattle.ir_parts.proofs.SaidNames.{is_quoted_by, quoted_is_string, sigil_first, where_true}
+use Rattle.ir_parts.proofs.StringTexts.{is_quoted_by, quoted_is_string, quoted_means}
+use Rattle.ir_parts.proofs.SaidNames.{sigil_first, where_true}
 use Rattle.ir_items.specs.InitReading.{is_byte_text, is_byte_string, byte_string, bytes_init_at, zero_init_at, literal_init_at, word_init_at, plain_init_at}
 use Rattle.ir_items.proofs.LiteralReader.{literal_reads}
 
@@ -45,9 +46,7 @@ bytes_there bytes t e =
 
 bytes_back : (bytes : List ℕ) (t : Lexeme) → IsByteString bytes t → byte_string t ≡ Some bytes
 unfolding is_byte_text
-bytes_back bytes t is =
-    let string = quoted_is_string is.1 bytes is.3 in
-    rw (is.0, is.2, string.0, string.1) refl
+bytes_back bytes t is = rw (is.0, is.2, quoted_is_string is.1 bytes is.3, quoted_means is.1 bytes is.3) refl
 
 is_bytes : (bytes : List ℕ) (t : Lexeme) → IsByteString bytes t → is_byte_string t ≡ true
 is_bytes bytes t is = (where_true (is_byte_string t) (Some (unescaped (inner_text (drop 1 t.text)))) bytes

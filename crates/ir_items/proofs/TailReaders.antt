@@ -12,7 +12,8 @@ use Rattle.ir_parts.specs.declared.ending.Run.{Run}
 use Rattle.ir_parts.specs.Reading.{Read, made, begins, is_punctuation}
 use Rattle.ir_parts.specs.MetadataReading.{is_metadata_word}
 use Rattle.ir_parts.specs.Runs.{goes_on, SpellsRunText}
-use Rattle.ir_parts.proofs.Readers.{StopsAt, IsReader, Anything, of_language, mapped, followed_until, refused_there}
+use Rattle.ir_parts.proofs.Readers.{StopsAt, IsReader, Anything, of_language, mapped, followed_until, chosen_apart, stops_at_all, stops_also}
+use Rattle.ir_parts.proofs.NoneGoesOn.{refused_there}
 use Rattle.ir_parts.proofs.Combined.{pure_reads, behind_token, not_at_first}
 use Rattle.ir_parts.proofs.SingleTokens.{sign_reads, is_sign_itself}
 use Rattle.ir_parts.proofs.PieceReaders.{or_neither, neither_or}
@@ -20,7 +21,6 @@ use Rattle.ir_parts.proofs.WordsReader.{StopsWords, words_read}
 use Rattle.ir_parts.proofs.MetadataReaders.{word_there, word_back, a_number, bare_attachment_reads, attachments_read}
 use Rattle.ir_items.specs.declared.global_ending.GlobalEnding.TheVariants.{Words}
 use Rattle.ir_items.specs.TailReading.{is_empty_run, goes_on_global, Runs, with_run, attached_runs_at, more_runs_at, behind_comma_at, runs_most_at, ending_of_runs}
-use Rattle.ir_items.proofs.ChosenUntil.{chosen_until}
 use Rattle.ir_items.proofs.RunEnds.{comma_stops_run, run_begins, piece_first}
 
 -- ---- what stops
@@ -97,11 +97,11 @@ SpellsTail Behind runs ts = (comma · Behind runs) ts ⊎ ((runs ≡ ([], false)
 module _ {behind : Read Runs} {Behind : Runs → Language} (behind_reads : IsReader behind Behind StopRuns) where
   tail_reads : IsReader (behind_comma_at behind) (SpellsTail Behind) StopRuns
   unfolding behind_comma_at
-  tail_reads = chosen_until (is_punctuation 44) {Stop = StopRuns} (behind_token (sign_reads 44) behind_reads)
+  tail_reads = chosen_apart (is_punctuation 44) {Stop = StopRuns} (behind_token (sign_reads 44) behind_reads)
       (pure_reads ([], false))
       (λ runs ts l. rw (l.2, l.3) (is_sign_itself 44))
-      parted stops (λ runs t stop. tt)
-      (λ t ts passed e. not_at_first (is_punctuation 44) behind_reads t ts passed e)
+      parted (λ t ts passed e. not_at_first (is_punctuation 44) behind_reads t ts passed e)
+      stops (λ runs taken rest l stop. stops_at_all rest (λ t. tt))
     where
       no_comma : (rest : List Lexeme) → StopsAt (StopRuns ([], false)) rest → begins (is_punctuation 44) rest ≡ false
       no_comma [] stop = refl
@@ -331,10 +331,10 @@ behind_some (suc most) ts (inr l) =
 pub behind_reads : (most : ℕ) → IsReader (runs_most_at most) (SpellsBehind most) StopRuns
 unfolding runs_most_at SpellsBehind
 behind_reads zero = attached_read
-behind_reads (suc most) = chosen_until is_metadata_word {Stop = StopRuns} attached_read
+behind_reads (suc most) = chosen_apart is_metadata_word {Stop = StopRuns} attached_read
     (more_read (behind_reads most) (behind_some most)) attached_starts
-    (more_parted (behind_reads most) (behind_some most)) (more_stops (behind_reads most) (behind_some most)) weakly_so
-    attached_begun
+    (more_parted (behind_reads most) (behind_some most)) attached_begun
+    (more_stops (behind_reads most) (behind_some most)) (λ runs taken rest l stop. stops_also rest (weakly_so runs) stop)
 
 pub most_read : (most : ℕ) → IsReader (behind_comma_at (runs_most_at most)) (SpellsTail (SpellsBehind most)) StopRuns
 most_read most = tail_reads (behind_reads most)

@@ -4,7 +4,8 @@ use Rattle.std.proofs.lemmas.List.{take-append-drop, drop_at}
 use Rattle.ir_text.specs.Tokens.{Lexeme}
 use Rattle.ir_lex.specs.Tokenized.{Tokenized, lexemes}
 use Rattle.ir_parts.specs.Reading.{Read, left_from}
-use Rattle.ir_parts.proofs.Readers.{IsReader, Anything, stops_at_all, same_read, same_parts}
+use Rattle.ir_parts.proofs.Readers.{IsReader, Anything, stops_at_all, same_read}
+use Rattle.ir_parts.proofs.NoneGoesOn.{same_parts}
 use Rattle.ir_parts.proofs.Places.{length_left}
 
 -- what stands between two places ends what stands before the second

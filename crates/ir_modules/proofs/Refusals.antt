@@ -8,7 +8,7 @@ use Rattle.ir_grammar.specs.Items.{SpellsItems}
 use Rattle.ir_grammar.specs.Spelled.{lexemes_of, SpellsNone, Viable, IsRefusal}
 use Rattle.ir_lex.proofs.OneLexing.{one_lexing}
 use Rattle.ir_parts.specs.Reading.{Read}
-use Rattle.ir_parts.proofs.Readers.{same_parts}
+use Rattle.ir_parts.proofs.NoneGoesOn.{same_parts}
 use Rattle.ir_modules.proofs.ItemsRead.{ReadsItems, none_goes_on, none_whole}
 
 -- a bad byte before the end

@@ -1,6 +1,6 @@
 //! What the names of tokens say.
 
-ghost use Rattle.std.specs.Prelude.{◌≡◌, ◌-◌, ◌<◌, map, IfOk, slice_get, Some, MatchOption, None, length, take, drop};
+ghost use Rattle.std.specs.Prelude.{◌≡◌, ◌<◌, map, IfOk, slice_get, Some, MatchOption, None, length};
 ghost use Rattle.std.specs.Option.{option_map, option_copied};
 ghost use Rattle.ir_text.specs.Said.{said_local, said_label, said_global, is_local_kind, is_label_kind, is_global_kind};
 ghost use Rattle.ir_lex.specs.Tokenized.{lexemes};
@@ -12,6 +12,7 @@ use crate::key::Key;
 use crate::written::{meant, said, said_global};
 use ir_lex::{TokenKind, Tokens};
 use ir_model::Text;
+use ir_parts::{before_last, behind_first};
 use sqlite_items::Items;
 use std::alloc::{AllocError, Global};
 use std::marker::Model;
@@ -139,24 +140,6 @@ fn written_of(kind: TokenKind, text: &[u8]) -> &[u8]
         before_last(text)
     } else {
         behind_first(text)
-    }
-}
-
-fn behind_first(text: &[u8]) -> &[u8]
-    ensures { result.now ≡ drop 1 text.now }
-{
-    match text.split_first() {
-        Some((_, rest)) => rest,
-        None => text,
-    }
-}
-
-fn before_last(text: &[u8]) -> &[u8]
-    ensures { result.now ≡ take (length text.now - 1) text.now }
-{
-    match text.split_last() {
-        Some((_, rest)) => rest,
-        None => text,
     }
 }
 

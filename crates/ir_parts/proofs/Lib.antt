@@ -1,11 +1,12 @@
 pub mod Readers
+pub mod NoneGoesOn
 pub mod Repeated
 pub mod UntilReader
 pub mod UpToReader
 pub mod ToEndReader
-pub mod MaybeReader
 pub mod Combined
 pub mod Together
+pub mod MaybeReader
 pub mod SingleTokens
 pub mod Places
 pub mod Loops
@@ -17,10 +18,10 @@ pub mod MetadataReaders
 pub mod ListReaders
 pub mod Decided
 pub mod PartsReader
+pub mod StringTexts
 pub mod SaidNames
 pub mod LookedUp
 pub mod ListLoops
-pub mod StringTexts
 pub mod PieceTokens
 pub mod Optional
 pub mod PieceReaders

@@ -11,7 +11,8 @@ use Rattle.ir_text.specs.Language.Many.{none, more}
 use Rattle.ir_parts.specs.Reading.{Read, go_on, ◌>>=◌, pure, ◌▷◌, made, begins, is_punctuation, punctuation_at, token_at}
 use Rattle.ir_parts.specs.MetadataReading.{is_metadata_kind, is_metadata, attachments_at}
 use Rattle.ir_parts.specs.ListReading.{begins_part, parts_at, all_parts_at}
-use Rattle.ir_parts.proofs.Readers.{StopsAt, Refused, IsReader, Anything, of_language, of_reading, mapped, then_reads, either, same_parts, in_two_parts}
+use Rattle.ir_parts.proofs.Readers.{StopsAt, Refused, IsReader, Anything, of_language, of_reading, mapped, then_reads, either, in_two_parts}
+use Rattle.ir_parts.proofs.NoneGoesOn.{same_parts}
 use Rattle.ir_parts.proofs.Combined.{behind_token, refusal_within}
 use Rattle.ir_parts.proofs.SingleTokens.{both_true, sign_reads, is_sign_itself}
 use Rattle.ir_parts.proofs.Repeated.{none_left}

@@ -13,7 +13,8 @@ use Rattle.ir_parts.specs.Reading.{begins, is_punctuation}
 use Rattle.ir_parts.specs.TypeReading.{int_width_of}
 use Rattle.ir_parts.specs.WordsReading.{is_passed_text, is_passed, is_string_token, is_group, is_numeral, begins_piece, piece_at, last_ending, of_pieces, run_at}
 use Rattle.ir_parts.specs.Runs.{ending_of_last, run_of_piece, run_of, belongs_to, goes_on, SpellsRun}
-use Rattle.ir_parts.proofs.Readers.{IsReader, of_language, mapped, refused_there}
+use Rattle.ir_parts.proofs.Readers.{IsReader, of_language, mapped}
+use Rattle.ir_parts.proofs.NoneGoesOn.{refused_there}
 use Rattle.ir_parts.proofs.Repeated.{BehindLast, repeated_by_last}
 use Rattle.ir_parts.proofs.PieceTokens.{IsPassed, passed_there, passed_back, string_there, string_back, group_there, group_back}
 use Rattle.ir_parts.proofs.PieceReaders.{EndsRun, or_neither, neither_or}

@@ -1,86 +1,24 @@
 -- What a token says as a name is the name that it spells.
-use Rattle.std.proofs.Common.{◌≡◌, ℕ, suc, ◌-◌, ◌≤◌, Bool, true, false, ◌&&◌, if◌then◌else◌, List, [], ◌∷◌, ◌++◌, length, take, drop, Option, Some, None, ◌⊎◌, inl, inr, refl, sym, ap, subst, ◌∙◌, arith}
+use Rattle.std.proofs.Common.{◌≡◌, ℕ, ◌-◌, Bool, true, false, ◌&&◌, if◌then◌else◌, List, [], ◌∷◌, ◌++◌, length, take, drop, Option, Some, None, ◌⊎◌, inl, inr, refl, sym, ap, subst, ◌∙◌, arith}
 use Rattle.std.specs.Prelude.{nat_le, nat_lt}
 use Rattle.std.specs.List.{list_all}
 use Rattle.std.specs.Str.{bytes_eq}
 use Rattle.std.specs.Str.Parse.{digits_value}
 use Rattle.std.proofs.Math.Seq.{take-append_seam, drop-append_seam}
-use Rattle.std.proofs.lemmas.Bool.{and_parts, leb-true, le-leb}
+use Rattle.std.proofs.lemmas.Bool.{and_parts}
 use Rattle.std.proofs.lemmas.List.{take-append-drop, length-append}
 use Rattle.std.proofs.lemmas.Slice.Eq.{bytes_eq-Decides}
 use Rattle.ir_text.specs.declared.token.TokenKind.{TokenKind}
 use Rattle.ir_text.specs.declared.token.TokenKind.TheVariants.{Label, Local, Global}
-use Rattle.ir_text.specs.Bytes.{is_digit, is_letter, begins_word, is_no_quote}
+use Rattle.ir_text.specs.Bytes.{is_digit, is_letter, begins_word}
 use Rattle.ir_text.specs.Names.{is_word, is_number}
 use Rattle.ir_text.specs.Tokens.{Lexeme}
 use Rattle.ir_text.specs.Written.{Name, Text, Number, unescaped, IsQuoted, Says, SaysGlobal, IsLocal, IsLabel, IsGlobal}
 use Rattle.ir_text.specs.Said.{inner_text, is_string_text, said, said_global_text, is_local_kind, is_label_kind, is_global_kind, said_local, said_label, said_global}
 use Rattle.ir_lex.proofs.BytesApart.{digit-no_word}
+use Rattle.ir_parts.proofs.StringTexts.{is_quoted_by, quoted_is_string, quoted_means}
 
--- ---- strings
-
-framed : (text : List ℕ) → 2 ≤ length text → 34 ∷ [] ≡ take 1 text → 34 ∷ [] ≡ drop (length text - 1) text
-    → text ≡ 34 ∷ (inner_text text ++ 34 ∷ [])
-framed [] long first last = absurd (omega arith)
-framed (b ∷ r) long first last =
-    let n : ℕ = length (b ∷ r) - 2 in
-    let opening : b ≡ 34 = cc in
-    let count : length (b ∷ r) - 1 ≡ suc n = omega (arith, long) in
-    let closing : drop n r ≡ 34 ∷ [] = sym (last ∙ ap (λ (k : ℕ). drop k (b ∷ r)) count) in
-    ap (λ (b : ℕ). b ∷ r) opening
-    ∙ ap (λ (r : List ℕ). 34 ∷ r) (sym (take-append-drop n r) ∙ ap (λ (end : List ℕ). take n r ++ end) closing)
-
-pub is_quoted_by : (text : List ℕ) → is_string_text text ≡ true → IsQuoted text (unescaped (inner_text text))
-unfolding is_string_text
-is_quoted_by text e =
-    let opens : Bool = bytes_eq (34 ∷ []) (take 1 text) in
-    let closes : Bool = bytes_eq (34 ∷ []) (drop (length text - 1) text) in
-    let inside : Bool = list_all is_no_quote (inner_text text) in
-    let a = and_parts ((nat_le 2 (length text) && opens) && closes) inside e in
-    let b = and_parts (nat_le 2 (length text) && opens) closes a.0 in
-    let c = and_parts (nat_le 2 (length text)) opens b.0 in (
-      inner_text text,
-      framed text (leb-true 2 (length text) c.0) ((bytes_eq-Decides (34 ∷ []) (take 1 text)).0 c.1)
-          ((bytes_eq-Decides (34 ∷ []) (drop (length text - 1) text)).0 b.1),
-      a.1,
-      refl,
-    )
-
-all_four : (a b c d : Bool) → a ≡ true → b ≡ true → c ≡ true → d ≡ true → (((a && b) && c) && d) ≡ true
-all_four a b c d e f g h = rw (e, f, g, h) refl
-
--- a string between its quotes
-framed_text : List ℕ → List ℕ
-framed_text inner = 34 ∷ (inner ++ 34 ∷ [])
-
-inner_of : (inner : List ℕ) → inner_text (framed_text inner) ≡ inner
-unfolding framed_text
-inner_of inner =
-    let count : length (framed_text inner) - 2 ≡ length inner = omega (arith, length-append inner (34 ∷ [])) in
-    ap (λ (n : ℕ). take n (inner ++ 34 ∷ [])) count ∙ take-append_seam inner (34 ∷ [])
-
-string_of : (inner : List ℕ) → list_all is_no_quote inner ≡ true → is_string_text (framed_text inner) ≡ true
-unfolding is_string_text framed_text
-string_of inner plain =
-    let text : List ℕ = 34 ∷ (inner ++ 34 ∷ []) in
-    let count : length text - 1 ≡ suc (length inner) = omega (arith, length-append inner (34 ∷ [])) in
-    let end : drop (length text - 1) text ≡ 34 ∷ [] =
-    ap (λ (n : ℕ). drop n text) count ∙ drop-append_seam inner (34 ∷ []) in
-    all_four (nat_le 2 (length text)) (bytes_eq (34 ∷ []) (take 1 text))
-    (bytes_eq (34 ∷ []) (drop (length text - 1) text))
-    (list_all is_no_quote (inner_text text))
-    (le-leb 2 (length text) (omega (arith, length-append inner (34 ∷ []))))
-    ((bytes_eq-Decides (34 ∷ []) (take 1 text)).1 refl)
-    ((bytes_eq-Decides (34 ∷ []) (drop (length text - 1) text)).1 (sym end))
-    (ap (list_all is_no_quote) (inner_of inner) ∙ plain)
-
-pub quoted_is_string : (text bytes : List ℕ) → IsQuoted text bytes → (is_string_text text ≡ true)
-    × (unescaped (inner_text text) ≡ bytes)
-unfolding framed_text
-quoted_is_string text bytes l = (
-  ap is_string_text l.1 ∙ string_of l.0 l.2,
-  ap (λ (text : List ℕ). unescaped (inner_text text)) l.1 ∙ (ap unescaped (inner_of l.0) ∙ sym l.3),
-)
+-- ---- strings, words and digits apart
 
 quoted_is_no_word : (text bytes : List ℕ) → IsQuoted text bytes → is_word text ≡ false
 unfolding is_word begins_word is_letter
@@ -144,11 +82,10 @@ is_said written (Text name) (inl l) =
     (Number (digits_value 10 written)) (Text (unescaped (inner_text written))) l.0
     ∙ ap (λ (name : List ℕ). Some (Text name)) l.1
 is_said written (Text name) (inr l) =
-    let string = quoted_is_string written name l in
     pick_third (is_word written) (is_number written) (is_string_text written) (Text written)
     (Number (digits_value 10 written)) (Text (unescaped (inner_text written)))
-    (quoted_is_no_word written name l) (quoted_is_no_number written name l) string.0
-    ∙ ap (λ (name : List ℕ). Some (Text name)) string.1
+    (quoted_is_no_word written name l) (quoted_is_no_number written name l) (quoted_is_string written name l)
+    ∙ ap (λ (name : List ℕ). Some (Text name)) (quoted_means written name l)
 is_said written (Number n) l =
     pick_second (is_word written) (is_number written) (is_string_text written) (Text written)
     (Number (digits_value 10 written)) (Text (unescaped (inner_text written))) (number_is_no_word written l.0) l.0
@@ -175,11 +112,10 @@ global_is_said written name (inr (inl l)) =
     (number_is_no_word written l.0) l.0
     ∙ ap (λ (name : List ℕ). Some name) l.1
 global_is_said written name (inr (inr l)) =
-    let string = quoted_is_string written name l in
     pick_third (is_word written) (is_number written) (is_string_text written) written written
     (unescaped (inner_text written))
-    (quoted_is_no_word written name l) (quoted_is_no_number written name l) string.0
-    ∙ ap (λ (name : List ℕ). Some name) string.1
+    (quoted_is_no_word written name l) (quoted_is_no_number written name l) (quoted_is_string written name l)
+    ∙ ap (λ (name : List ℕ). Some name) (quoted_means written name l)
 
 -- ---- behind a sigil
 

@@ -74,3 +74,8 @@ string_of inner plain =
 pub quoted_is_string : (text bytes : List ℕ) → IsQuoted text bytes → is_string_text text ≡ true
 unfolding framed_text
 quoted_is_string text bytes l = ap is_string_text l.1 ∙ string_of l.0 l.2
+
+-- What stands between its quotes means its bytes.
+pub quoted_means : (text bytes : List ℕ) → IsQuoted text bytes → unescaped (inner_text text) ≡ bytes
+quoted_means text bytes l =
+    ap (λ (text : List ℕ). unescaped (inner_text text)) l.1 ∙ (ap unescaped (inner_of l.0) ∙ sym l.3)

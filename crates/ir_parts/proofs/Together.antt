@@ -3,7 +3,7 @@ use Rattle.std.proofs.Common.{◌≡◌, List, ◌++◌, refl, sym, ap, subst}
 use Rattle.ir_text.specs.Tokens.{Lexeme}
 use Rattle.ir_text.specs.Language.{Language, ◌·◌}
 use Rattle.ir_parts.specs.Reading.{Read, ◌>>=◌, pure, ◌⊗◌}
-use Rattle.ir_parts.proofs.Readers.{StopsAt, IsReader, Anything, of_language, mapped, followed_until, stops_at_all, stops_also}
+use Rattle.ir_parts.proofs.Readers.{StopsAt, IsReader, Anything, of_language, mapped, followed_until, stops_at_all}
 
 -- What ends the second doesn't continue the first.
 abbrev pub Ends : {X Y : Type 0} → (X → Lexeme → Type 0) → (Y → List Lexeme → Type 0) → (Y → Lexeme → Type 0) → Type 0
@@ -61,24 +61,3 @@ pub both_read_on : {X Y : Type 0} {a : Read X} {b : Read Y} {A : X → Language}
     {StopB : Y → Lexeme → Type 0}
     → IsReader a A Anything → IsReader b B StopB → IsReader (a ⊗ b) (λ p. A p.0 · B p.1) (λ p. StopB p.1)
 both_read_on first next = both_followed first next (λ x y taken rest l stops. stops_at_all (taken ++ rest) (λ t. tt))
-
--- ---- other words for what stops a sentence
-
--- The same tokens stop each sentence of what was read.
-pub of_stop_of : {X : Type 0} {a : Read X} {A : X → Language} {Stop : X → Lexeme → Type 0} (Halt : X → Lexeme → Type 0)
-    → ((x : X) (ts : List Lexeme) (t : Lexeme) → A x ts → Stop x t → Halt x t)
-    → ((x : X) (ts : List Lexeme) (t : Lexeme) → A x ts → Halt x t → Stop x t)
-    → IsReader a A Stop → IsReader a A Halt
-of_stop_of Halt there back r = record {
-  takes = λ ts rest x e. let t = r.takes ts rest x e in record {
-    taken = t.taken;
-    parts = t.parts;
-    spelled = t.spelled;
-    stops = stops_also rest (λ u stop. there x t.taken u t.spelled stop) t.stops;
-  };
-  reads = λ x taken rest l stops. r.reads x taken rest l (stops_also rest (λ u stop. back x taken u l stop) stops);
-  refuses = r.refuses;
-  some = r.some;
-  sentence = r.sentence;
-  sample = r.sample;
-}

@@ -7,7 +7,8 @@ use Rattle.ir_parts.specs.declared.fault.ItemFault.{ItemFault}
 use Rattle.ir_parts.specs.declared.fault.ItemFault.TheVariants.{CannotGoOn, OutOfMemory}
 use Rattle.ir_parts.specs.Reading.{Read, go_on, pure, made, left_from, Reads, Passes}
 use Rattle.ir_parts.specs.Sentences.{Begins, IsSentence, IsBroken, Tells, TellsPlace}
-use Rattle.ir_parts.proofs.Readers.{IsReader, goes_no_further, refused_there, same_parts, both_read, same_read}
+use Rattle.ir_parts.proofs.Readers.{IsReader, both_read, same_read}
+use Rattle.ir_parts.proofs.NoneGoesOn.{goes_no_further, refused_there, same_parts}
 use Rattle.ir_parts.proofs.Places.{length_left}
 
 -- ---- the tokens from one place to another

@@ -31,7 +31,7 @@ pub use metadata::{
     braces as skip_braces, metadata as behind_metadata, skip_bare_attachment, skip_metadata,
     skip_node, skip_pairs, starts_metadata_word, starts_part,
 };
-pub use names::{is_global, is_local};
+pub use names::{before_last, behind_first, is_global, is_label, is_local, starts_local};
 pub use numbers::{are_digits, int_width_of, small_number};
 pub use passed_text::text_between;
 pub use passed_words::{left_out_place, place_among};

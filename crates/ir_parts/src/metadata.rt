@@ -85,8 +85,8 @@ fn attached(alloc: Global, tokens: &Tokens<'_>, from: usize) -> Result<usize, It
     }
 }
 
-/// The place behind a node of metadata, `!{ .. }` or `!word( .. )`. A fault stands at the first token with which no node
-/// goes on; memory is taken for the brackets that are open.
+/// The place behind a node of metadata, `!{ .. }` or `!word( .. )`. A fault stands at the first token with which no
+/// node goes on; memory is taken for the brackets that are open.
 pub fn skip_node(alloc: Global, tokens: &Tokens<'_>, from: usize) -> Result<usize, ItemFault>
     requires { from ≤ length tokens.now.tokens }
     ensures sentence { TellsPlace metadata_node tokens.now from result }
