@@ -24,3 +24,4 @@ pub mod OpTellers
 pub mod PartStarts
 pub mod GatheredLoops
 pub mod NumberAt
+pub mod Sentences

@@ -1,4 +1,5 @@
 pub mod Telling
+pub mod Sentences
 pub mod Tables
 pub mod Operands
 pub mod Opcodes

@@ -3,7 +3,8 @@
 ghost use Rattle.std.specs.Prelude.{◌≡◌, ◌<◌, ◌≤◌, length, IfOk};
 ghost use Rattle.ir_parts.specs.Reading.{left_from, ReadsAs};
 ghost use Rattle.ir_parts.specs.Places.{mentions_at};
-ghost use Rattle.ir_body.specs.Operation.{behind_at, op_at};
+ghost use Rattle.ir_body.specs.Sentences.{TellsAs};
+ghost use Rattle.ir_body.specs.Operation.{behind_at, op_at, SpellsAttached};
 ghost use Rattle.ir_body.specs.Views.{bare_operation, operation_sites};
 
 use crate::aligned::{read_alloca, read_load, read_store};
@@ -19,8 +20,27 @@ use ir_parts::ItemFault;
 use std::alloc::Global;
 
 /// An operation that is no call, and the attachments behind it. Behind a result one that gives none is refused.
-#[tactic(auto, unfolding(crate::specs::Operation::op_at), using(crate::proofs::Told::told))]
+///
+/// The tokens that are taken spell what comes out. A fault stands at the first token with which no operation goes on.
 pub fn read_op(
+    alloc: Global,
+    tokens: &Tokens<'_>,
+    from: usize,
+    has_result: bool,
+) -> Result<(Operation, usize), ItemFault>
+    requires { from ≤ length tokens.now.tokens }
+    ensures value { ReadsAs (λ x. (bare_operation x, mentions_at tokens.now (operation_sites x))) tokens.now result
+        (op_at has_result (left_from tokens.now from)) }
+    ensures grammar { TellsAs (λ x. (bare_operation x, mentions_at tokens.now (operation_sites x)))
+        (SpellsAttached has_result) tokens.now from result }
+    ensures forth { IfOk result (λ read. (from < read.1) × (read.1 ≤ length tokens.now.tokens)) }
+{
+    operation(alloc, tokens, from, has_result)
+}
+
+/// An opcode and what stands behind it.
+#[tactic(auto, unfolding(crate::specs::Operation::op_at), using(crate::proofs::Told::told))]
+fn operation(
     alloc: Global,
     tokens: &Tokens<'_>,
     from: usize,
