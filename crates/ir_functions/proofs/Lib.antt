@@ -1,3 +1,7 @@
+pub mod SameReadings
+pub mod UntilLoops
+pub mod GatheredLists
+pub mod ListViews
 pub mod LastPieces
 pub mod OperandTokens
 pub mod ArgumentRuns
