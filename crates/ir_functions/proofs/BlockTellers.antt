@@ -255,11 +255,18 @@ module _ {Chain : Bool → Option Operation × Option Ending → List Mention �
       of_name (inl said) m = inl (before, behind, whole, (us, vs, parts, (id, said), m.spelled))
       of_name (inr none) m = inr (before, behind, whole, (us, vs, parts, (id, none), m.spelled))
 
+  abbrev named_block : BlockId × List Instr → Block
+  named_block p = record { id = p.0; instrs = p.1 }
+
+  abbrev with_instrs : BlockId × List Line → BlockId × List Instr
+  with_instrs p = (p.0, instrs_of p.1)
+
   same_block : (ts : List Lexeme) → block_at ts ≡ made block_of (block_name_at ⊗ lines_at) ts
   unfolding block_at instrs_at
   same_block ts =
-      made_same (λ p. record { id = p.0; instrs = p.1 }) (then_made instrs_of block_name_at lines_at) ts
-      ∙ made_made (λ p. record { id = p.0; instrs = p.1 }) (λ p. (p.0, instrs_of p.1)) (block_name_at ⊗ lines_at) ts
+      made_same named_block (block_name_at ⊗ instrs_at) (made with_instrs (block_name_at ⊗ lines_at))
+      (then_made instrs_of block_name_at lines_at) ts
+      ∙ made_made named_block with_instrs (block_name_at ⊗ lines_at) ts
 
   pub block_tells : IsTeller block_at SpellsBlock (λ block t. is_punctuation 44 t ≡ false)
   block_tells = told_reading block_at same_block

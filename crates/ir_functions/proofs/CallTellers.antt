@@ -25,6 +25,7 @@ use Rattle.ir_body.specs.Telling.{Telling, ◌>>=◌, ◌⊗◌, ◌▷◌, made
 use Rattle.ir_body.proofs.Tellers.{IsTeller, silent_tells, told_reading, each_tells, made_tells, skip, both, sign_tells}
 use Rattle.ir_functions.proofs.SameReadings.{skip_same, first_same, both_same, made_same, silently_skip, silently_made, made_made, skip_made, first_made, then_made, listed_same}
 use Rattle.ir_functions.specs.declared.arguments.Argument.{Argument}
+use Rattle.ir_functions.specs.declared.argument_list.Arguments.{Arguments}
 use Rattle.ir_functions.specs.declared.calls.CallHead.{CallHead}
 use Rattle.ir_functions.specs.declared.calls.Callee.{Callee}
 use Rattle.ir_functions.specs.declared.calls.Callee.TheVariants.{Dropped, Named}
@@ -125,41 +126,64 @@ dropped_parts_at = made make_dropped (silently (reading.◌▷◌ parentheses_at
 called_parts_at : CallHead → List ℕ → Telling Read
 called_parts_at head name = made (make_call head name) (sign_at 40 ▷ (arguments_at ⊗ silently trailing_at))
 
+abbrev text_and_end : Behind → List ℕ × Option Ending
+text_and_end p = (p.0.1, tail_of p)
+
+abbrev given_and_end : List Argument × Behind → Arguments × (List ℕ × Option Ending)
+given_and_end p = (arguments_of p.0, text_and_end p.1)
+
+same_ended : (ts : List Lexeme) → silently ended_at ts ≡ made text_and_end (silently trailing_at) ts
+unfolding ended_at
+same_ended ts = silently_made text_and_end trailing_at ts
+
 dropped_same : (ts : List Lexeme) → dropped_at ts ≡ dropped_parts_at ts
-unfolding dropped_at ended_at dropped_parts_at
+unfolding dropped_at dropped_parts_at
 dropped_same ts =
-    made_same (λ t. (None, t.1))
-    (λ ts. skip_same (silently_made (λ p. (p.0.1, tail_of p)) trailing_at) ts
-    ∙ skip_made (silently parentheses_at) (λ p. (p.0.1, tail_of p)) (silently trailing_at) ts) ts
-    ∙ made_made (λ t. (None, t.1)) (λ p. (p.0.1, tail_of p)) (silently parentheses_at ▷ silently trailing_at) ts
-    ∙ sym (made_same make_dropped (silently_skip parentheses_at trailing_at) ts)
+    made_same no_call (silently parentheses_at ▷ silently ended_at)
+    (made text_and_end (silently parentheses_at ▷ silently trailing_at))
+    (λ ts. skip_same (silently parentheses_at) (silently ended_at) (made text_and_end (silently trailing_at))
+    same_ended ts
+    ∙ skip_made (silently parentheses_at) text_and_end (silently trailing_at) ts) ts
+    ∙ (made_made no_call text_and_end (silently parentheses_at ▷ silently trailing_at) ts
+    ∙ sym (made_same make_dropped (silently (reading.◌▷◌ parentheses_at trailing_at))
+    (silently parentheses_at ▷ silently trailing_at) (silently_skip parentheses_at trailing_at) ts))
+  where
+    no_call : List ℕ × Option Ending → Read
+    no_call t = (None, t.1)
 
 same_given : (ts : List Lexeme) → given_at ts ≡ made arguments_of arguments_at ts
 unfolding given_at some_given_at arguments_at
 same_given ts = listed_same arguments_of argument_at 41 ts
 
-given_apart : (ts : List Lexeme)
-    → (given_at ⊗ silently ended_at) ts
-    ≡ made (λ p. (arguments_of p.0, (p.1.0.1, tail_of p.1))) (arguments_at ⊗ silently trailing_at) ts
-unfolding ended_at
-given_apart ts =
-    both_same (silently_made (λ p. (p.0.1, tail_of p)) trailing_at) ts
-    ∙ (then_made (λ p. (p.0.1, tail_of p)) given_at (silently trailing_at) ts
-    ∙ (made_same (λ p. (p.0, (p.1.0.1, tail_of p.1)))
-    (λ ts. first_same same_given ts ∙ first_made arguments_of arguments_at (silently trailing_at) ts) ts
-    ∙ made_made (λ p. (p.0, (p.1.0.1, tail_of p.1))) (λ p. (arguments_of p.0, p.1)) (arguments_at ⊗ silently trailing_at)
-    ts))
+parts_same : (ts : List Lexeme) → (given_at ⊗ silently ended_at) ts
+    ≡ made given_and_end (arguments_at ⊗ silently trailing_at) ts
+parts_same ts =
+    first_same given_at (made arguments_of arguments_at) (silently ended_at) same_given ts
+    ∙ (first_made arguments_of arguments_at (silently ended_at) ts
+    ∙ (made_same with_arguments (arguments_at ⊗ silently ended_at) (made with_end (arguments_at ⊗ silently trailing_at))
+    (λ ts. both_same arguments_at (silently ended_at) (made text_and_end (silently trailing_at)) same_ended ts
+    ∙ then_made text_and_end arguments_at (silently trailing_at) ts) ts
+    ∙ made_made with_arguments with_end (arguments_at ⊗ silently trailing_at) ts))
+  where
+    with_arguments : List Argument × (List ℕ × Option Ending) → Arguments × (List ℕ × Option Ending)
+    with_arguments p = (arguments_of p.0, p.1)
+
+    with_end : List Argument × Behind → List Argument × (List ℕ × Option Ending)
+    with_end p = (p.0, text_and_end p.1)
 
 called_same : (head : CallHead) (name : List ℕ) (ts : List Lexeme) → called_at head name ts
     ≡ called_parts_at head name ts
 unfolding called_at called_parts_at
 called_same head name ts =
-    made_same (λ p. (Some (call_of head name p.0 p.1.0), p.1.1))
-    (λ ts. skip_same given_apart ts
-    ∙ skip_made (sign_at 40) (λ p. (arguments_of p.0, (p.1.0.1, tail_of p.1))) (arguments_at ⊗ silently trailing_at) ts)
-    ts
-    ∙ made_made (λ p. (Some (call_of head name p.0 p.1.0), p.1.1)) (λ p. (arguments_of p.0, (p.1.0.1, tail_of p.1)))
-    (sign_at 40 ▷ (arguments_at ⊗ silently trailing_at)) ts
+    made_same call (sign_at 40 ▷ (given_at ⊗ silently ended_at))
+    (made given_and_end (sign_at 40 ▷ (arguments_at ⊗ silently trailing_at)))
+    (λ ts. skip_same (sign_at 40) (given_at ⊗ silently ended_at)
+    (made given_and_end (arguments_at ⊗ silently trailing_at)) parts_same ts
+    ∙ skip_made (sign_at 40) given_and_end (arguments_at ⊗ silently trailing_at) ts) ts
+    ∙ made_made call given_and_end (sign_at 40 ▷ (arguments_at ⊗ silently trailing_at)) ts
+  where
+    call : Arguments × (List ℕ × Option Ending) → Read
+    call p = (Some (call_of head name p.0 p.1.0), p.1.1)
 
 behind_callee_tells : (head : CallHead) (callee : Callee)
     → IsTeller (behind_callee_at head callee) (SpellsBehindCallee head callee) (λ read. StopsTail read.1)

@@ -295,7 +295,10 @@ made_params p = (params_of p.0, made_behind p.1)
 
 same_behind : (ts : List Lexeme) → (opening_at ⊗ body_at) ts ≡ made made_behind behind_params_at ts
 unfolding body_at behind_params_at
-same_behind ts = then_made (λ p. p.0 ∷ p.1) opening_at (block_at ⊗ blocks_at) ts
+same_behind ts = then_made joined opening_at (block_at ⊗ blocks_at) ts
+  where
+    joined : Block × List Block → List Block
+    joined p = p.0 ∷ p.1
 
 same_listed : (ts : List Lexeme) → taken_params_at ts ≡ made params_of params_at ts
 unfolding taken_params_at some_params_at params_at
@@ -304,21 +307,38 @@ same_listed ts = listed_same params_of param_at 41 ts
 same_params : (ts : List Lexeme) → (taken_params_at ⊗ (opening_at ⊗ body_at)) ts
     ≡ made made_params (params_at ⊗ behind_params_at) ts
 same_params ts =
-    both_same same_behind ts
-    ∙ (then_made made_behind taken_params_at behind_params_at ts
-    ∙ (made_same (λ p. (p.0, made_behind p.1))
-    (λ ts. first_same same_listed ts ∙ first_made params_of params_at behind_params_at ts) ts
-    ∙ made_made (λ p. (p.0, made_behind p.1)) (λ p. (params_of p.0, p.1)) (params_at ⊗ behind_params_at) ts))
+    first_same taken_params_at (made params_of params_at) (opening_at ⊗ body_at) same_listed ts
+    ∙ (first_made params_of params_at (opening_at ⊗ body_at) ts
+    ∙ (made_same with_params (params_at ⊗ (opening_at ⊗ body_at)) (made with_blocks (params_at ⊗ behind_params_at))
+    (λ ts. both_same params_at (opening_at ⊗ body_at) (made made_behind behind_params_at) same_behind ts
+    ∙ then_made made_behind params_at behind_params_at ts) ts
+    ∙ made_made with_params with_blocks (params_at ⊗ behind_params_at) ts))
+  where
+    with_params : ReadParams × (Words × List Block) → List Param × (Words × List Block)
+    with_params p = (params_of p.0, p.1)
+
+    with_blocks : ReadParams × BodyParts → ReadParams × (Words × List Block)
+    with_blocks p = (p.0, made_behind p.1)
+
+abbrev with_parts : FunctionParts → (Words × (IrType × List ℕ)) × (List Param × (Words × List Block))
+with_parts p = (p.0, made_params p.1)
+
+same_signed : (ts : List Lexeme) → (sign_at 40 ▷ (taken_params_at ⊗ (opening_at ⊗ body_at))) ts
+    ≡ made made_params (sign_at 40 ▷ (params_at ⊗ behind_params_at)) ts
+same_signed ts =
+    skip_same (sign_at 40) (taken_params_at ⊗ (opening_at ⊗ body_at))
+    (made made_params (params_at ⊗ behind_params_at)) same_params ts
+    ∙ skip_made (sign_at 40) made_params (params_at ⊗ behind_params_at) ts
 
 same_function : (ts : List Lexeme) → function_at ts ≡ made make_function parts_at ts
 unfolding function_at parts_at
 same_function ts =
-    made_same function_of
-    (λ ts.
-    both_same (λ ts. skip_same same_params ts ∙ skip_made (sign_at 40) made_params (params_at ⊗ behind_params_at) ts) ts
+    made_same function_of (signature_at ⊗ (sign_at 40 ▷ (taken_params_at ⊗ (opening_at ⊗ body_at))))
+    (made with_parts (signature_at ⊗ (sign_at 40 ▷ (params_at ⊗ behind_params_at))))
+    (λ ts. both_same signature_at (sign_at 40 ▷ (taken_params_at ⊗ (opening_at ⊗ body_at)))
+    (made made_params (sign_at 40 ▷ (params_at ⊗ behind_params_at))) same_signed ts
     ∙ then_made made_params signature_at (sign_at 40 ▷ (params_at ⊗ behind_params_at)) ts) ts
-    ∙ made_made function_of (λ p. (p.0, made_params p.1))
-    (signature_at ⊗ (sign_at 40 ▷ (params_at ⊗ behind_params_at))) ts
+    ∙ made_made function_of with_parts (signature_at ⊗ (sign_at 40 ▷ (params_at ⊗ behind_params_at))) ts
 
 module _ {Chain : Bool → Option Operation × Option Ending → List Mention → List Lexeme → Type 0}
     (calls : ReadsCalls Chain) where

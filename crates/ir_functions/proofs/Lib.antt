@@ -27,6 +27,7 @@ pub mod CallTellers
 pub mod CallChains
 pub mod DroppedCalls
 pub mod WholeFunctions
+pub mod LineAt
 pub mod ArgumentAt
 pub mod MinimumNames
 pub mod TailAt

@@ -38,7 +38,7 @@ module _ {Chain : Bool → Option Operation × Option Ending → List Mention �
           ap (λ (p : Option Operation × Option Ending). p.0) e in cc
 
   -- what is dropped
-  none_says : (has_result : Bool) (tail : Option Ending) (ms : List Mention) (ts : List Lexeme)
+  pub none_says : (has_result : Bool) (tail : Option Ending) (ms : List Mention) (ts : List Lexeme)
       → SpellsChain calls has_result (None, tail) ms ts → Chain has_result (None, tail) ms ts
   none_says has_result tail ms ts (inl l) = l
   none_says has_result tail ms ts (inr l) =

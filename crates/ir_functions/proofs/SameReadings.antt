@@ -14,9 +14,9 @@ Told X = Result ((X × List Mention) × List Lexeme) ℕ
 
 -- ---- two readings that are the same
 
-pub skip_same : {B : Type 0} {a : Telling (Unit {0})} {b c : Telling B} → ((ts : List Lexeme) → b ts ≡ c ts)
+pub skip_same : {B : Type 0} (a : Telling (Unit {0})) (b c : Telling B) → ((ts : List Lexeme) → b ts ≡ c ts)
     → (ts : List Lexeme) → (a ▷ b) ts ≡ (a ▷ c) ts
-skip_same {B} {a} {b} {c} same ts = of (a ts)
+skip_same {B} a b c same ts = of (a ts)
   where
     of : (r : Told (Unit {0}))
         → go_on {B = B × List Mention} r (λ read rest. behind read.1 (b rest))
@@ -24,15 +24,15 @@ skip_same {B} {a} {b} {c} same ts = of (a ts)
     of (Ok read) = ap (behind read.0.1) (same read.1)
     of (Err left) = refl
 
-pub first_same : {A B : Type 0} {a c : Telling A} {b : Telling B} → ((ts : List Lexeme) → a ts ≡ c ts)
+pub first_same : {A B : Type 0} (a c : Telling A) (b : Telling B) → ((ts : List Lexeme) → a ts ≡ c ts)
     → (ts : List Lexeme) → (a ⊗ b) ts ≡ (c ⊗ b) ts
-first_same {A} {B} {a} {c} {b} same ts =
+first_same {A} {B} a c b same ts =
     ap (λ (r : Told A). go_on {B = (A × B) × List Mention} r (λ x rest. behind x.1 (made (λ y. (x.0, y)) b rest)))
     (same ts)
 
-pub both_same : {A B : Type 0} {a : Telling A} {b c : Telling B} → ((ts : List Lexeme) → b ts ≡ c ts)
+pub both_same : {A B : Type 0} (a : Telling A) (b c : Telling B) → ((ts : List Lexeme) → b ts ≡ c ts)
     → (ts : List Lexeme) → (a ⊗ b) ts ≡ (a ⊗ c) ts
-both_same {A} {B} {a} {b} {c} same ts = of (a ts)
+both_same {A} {B} a b c same ts = of (a ts)
   where
     of : (r : Told A)
         → go_on {B = (A × B) × List Mention} r (λ read rest. behind read.1 (made (λ y. (read.0, y)) b rest))
@@ -41,9 +41,9 @@ both_same {A} {B} {a} {b} {c} same ts = of (a ts)
         (same read.1)
     of (Err left) = refl
 
-pub made_same : {A B : Type 0} (f : A → B) {b c : Telling A} → ((ts : List Lexeme) → b ts ≡ c ts)
+pub made_same : {A B : Type 0} (f : A → B) (b c : Telling A) → ((ts : List Lexeme) → b ts ≡ c ts)
     → (ts : List Lexeme) → made f b ts ≡ made f c ts
-made_same {A} {B} f same ts = ap (λ (r : Told A). go_on {B = B × List Mention} r (λ x rest. behind x.1 (give (f x.0) rest))) (same ts)
+made_same {A} {B} f b c same ts = ap (λ (r : Told A). go_on {B = B × List Mention} r (λ x rest. behind x.1 (give (f x.0) rest))) (same ts)
 
 -- ---- what is read silently
 
@@ -51,16 +51,16 @@ pub silently_skip : {B : Type 0} (a : Read (Unit {0})) (b : Read B) (ts : List L
     → silently (reading.◌▷◌ a b) ts ≡ (silently a ▷ silently b) ts
 silently_skip {B} a b ts = of (a ts)
   where
-    then : (r : Result (B × List Lexeme) ℕ) → go_on r (λ x rest. Ok ((x, []), rest))
+    after : (r : Result (B × List Lexeme) ℕ) → go_on r (λ x rest. Ok ((x, []), rest))
         ≡ behind [] (go_on r (λ x rest. Ok ((x, []), rest)))
-    then (Ok read) = refl
-    then (Err left) = refl
+    after (Ok read) = refl
+    after (Err left) = refl
 
     of : (r : Result (Unit {0} × List Lexeme) ℕ)
         → go_on {B = B × List Mention} (go_on r (λ u. b)) (λ x rest. Ok ((x, []), rest))
         ≡ go_on {A = Unit {0} × List Mention} (go_on r (λ u rest. Ok ((u, []), rest)))
         (λ u rest. behind u.1 (silently b rest))
-    of (Ok read) = then (b read.1)
+    of (Ok read) = after (b read.1)
     of (Err left) = refl
 
 pub silently_made : {A B : Type 0} (f : A → B) (a : Read A) (ts : List Lexeme)
@@ -91,17 +91,17 @@ pub skip_made : {A B : Type 0} (s : Telling (Unit {0})) (f : A → B) (a : Telli
     → (s ▷ made f a) ts ≡ made f (s ▷ a) ts
 skip_made {A} {B} s f a ts = of (s ts)
   where
-    then : (ms : List Mention) (r : Told A)
+    after : (ms : List Mention) (r : Told A)
         → behind ms (go_on {B = B × List Mention} r (λ x rest. behind x.1 (give (f x.0) rest)))
         ≡ go_on (behind ms r) (λ x rest. behind x.1 (give (f x.0) rest))
-    then ms (Ok read) = ap (λ (ms : List Mention). Ok ((f read.0.0, ms), read.1)) (sym (append_assoc ms read.0.1 []))
-    then ms (Err left) = refl
+    after ms (Ok read) = ap (λ (ms : List Mention). Ok ((f read.0.0, ms), read.1)) (sym (append_assoc ms read.0.1 []))
+    after ms (Err left) = refl
 
     of : (r : Told (Unit {0}))
         → go_on {B = B × List Mention} r (λ u rest. behind u.1 (made f a rest))
         ≡ go_on {A = A × List Mention} (go_on r (λ u rest. behind u.1 (a rest)))
         (λ x rest. behind x.1 (give (f x.0) rest))
-    of (Ok read) = then read.0.1 (a read.1)
+    of (Ok read) = after read.0.1 (a read.1)
     of (Err left) = refl
 
 -- of the first part, and of the second
@@ -109,41 +109,41 @@ pub first_made : {A B C : Type 0} (f : A → C) (a : Telling A) (b : Telling B) 
     → (made f a ⊗ b) ts ≡ made (λ p. (f p.0, p.1)) (a ⊗ b) ts
 first_made {A} {B} {C} f a b ts = of (a ts)
   where
-    then : (x : A) (ms : List Mention) (r : Told B)
+    after : (x : A) (ms : List Mention) (r : Told B)
         → behind (ms ++ []) (go_on {B = (C × B) × List Mention} r (λ y rest. behind y.1 (give (f x, y.0) rest)))
         ≡ go_on {A = (A × B) × List Mention} (behind ms (go_on r (λ y rest. behind y.1 (give (x, y.0) rest))))
         (λ p rest. behind p.1 (give (f p.0.0, p.0.1) rest))
-    then x ms (Ok read) = ap (λ (ms : List Mention). Ok (((f x, read.0.0), ms), read.1))
+    after x ms (Ok read) = ap (λ (ms : List Mention). Ok (((f x, read.0.0), ms), read.1))
         (ap (λ (before : List Mention). before ++ (read.0.1 ++ [])) (append-nil ms)
         ∙ sym (append-nil (ms ++ (read.0.1 ++ []))))
-    then x ms (Err left) = refl
+    after x ms (Err left) = refl
 
     of : (r : Told A)
         → go_on {A = C × List Mention} {B = (C × B) × List Mention} (go_on r (λ x rest. behind x.1 (give (f x.0) rest)))
         (λ x rest. behind x.1 (made (λ y. (x.0, y)) b rest))
         ≡ go_on {A = (A × B) × List Mention} (go_on r (λ x rest. behind x.1 (made (λ y. (x.0, y)) b rest)))
         (λ p rest. behind p.1 (give (f p.0.0, p.0.1) rest))
-    of (Ok read) = then read.0.0 read.0.1 (b read.1)
+    of (Ok read) = after read.0.0 read.0.1 (b read.1)
     of (Err left) = refl
 
 pub then_made : {A B C : Type 0} (f : B → C) (a : Telling A) (b : Telling B) (ts : List Lexeme)
     → (a ⊗ made f b) ts ≡ made (λ p. (p.0, f p.1)) (a ⊗ b) ts
 then_made {A} {B} {C} f a b ts = of (a ts)
   where
-    then : (x : A) (ms : List Mention) (r : Told B)
+    after : (x : A) (ms : List Mention) (r : Told B)
         → behind ms (go_on {A = C × List Mention} {B = (A × C) × List Mention}
         (go_on r (λ y rest. behind y.1 (give (f y.0) rest))) (λ y rest. behind y.1 (give (x, y.0) rest)))
         ≡ go_on {A = (A × B) × List Mention} (behind ms (go_on r (λ y rest. behind y.1 (give (x, y.0) rest))))
         (λ p rest. behind p.1 (give (p.0.0, f p.0.1) rest))
-    then x ms (Ok read) = ap (λ (behind : List Mention). Ok (((x, f read.0.0), behind), read.1))
+    after x ms (Ok read) = ap (λ (behind : List Mention). Ok (((x, f read.0.0), behind), read.1))
         (sym (append_assoc ms (read.0.1 ++ []) []))
-    then x ms (Err left) = refl
+    after x ms (Err left) = refl
 
     of : (r : Told A)
         → go_on {B = (A × C) × List Mention} r (λ x rest. behind x.1 (made (λ y. (x.0, y)) (made f b) rest))
         ≡ go_on {A = (A × B) × List Mention} (go_on r (λ x rest. behind x.1 (made (λ y. (x.0, y)) b rest)))
         (λ p rest. behind p.1 (give (p.0.0, f p.0.1) rest))
-    of (Ok read) = then read.0.0 read.0.1 (b read.1)
+    of (Ok read) = after read.0.0 read.0.1 (b read.1)
     of (Err left) = refl
 
 -- ---- lists
@@ -156,10 +156,10 @@ pub listed_same : {A B : Type 0} (make : List A → B) (item : Telling A) (closi
 unfolding listed_at
 listed_same {A} {B} make item closing ts = of (begins (is_punctuation closing) ts)
   where
-    abbrev Listed : Type 0
+    Listed : Type 0
     Listed = Result (List (A × List Mention) × List Lexeme) ℕ
 
-    abbrev all : Listed → Told B
+    all : Listed → Told B
     all r = go_on {A = List A × List Mention} (go_on r (λ xs. pure (gathered xs)))
         (λ x rest. behind x.1 (give (make x.0) rest))
 

@@ -79,11 +79,11 @@ module _ {A : Type 0} (last : A → Bool) (item : Read A) where
 
   pub until_refuses : (earlier : List A) (ts : List Lexeme) (left : ℕ) (total : Result (List A × List Lexeme) ℕ)
       → item ts ≡ Err left → Until earlier ts total → total ≡ Err left
+  unfolding until_at
   until_refuses earlier ts left total read loop = go loop.most loop.enough loop.so_far
     where
       go : (most : ℕ) → length ts < most → with_earlier earlier (until_at last item most ts) ≡ total
           → total ≡ Err left
-      unfolding until_at
       go zero enough e = absurd (omega arith)
       go (suc most) enough e =
           sym e ∙ ap (with_earlier earlier)
