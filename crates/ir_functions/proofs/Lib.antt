@@ -28,6 +28,7 @@ pub mod CallChains
 pub mod DroppedCalls
 pub mod WholeFunctions
 pub mod LineAt
+pub mod BodyAt
 pub mod ArgumentAt
 pub mod MinimumNames
 pub mod TailAt

@@ -1,6 +1,6 @@
 //! Blocks and functions.
 
-ghost use Rattle.std.specs.Prelude.{◌<◌, ◌≤◌, [], ◌∷◌, length, IfOk};
+ghost use Rattle.std.specs.Prelude.{◌≡◌, ◌<◌, ◌≤◌, [], ◌∷◌, length, IfOk};
 ghost use Rattle.ir_text.specs.Sites.{function_sites, block_sites, bare_function, bare_block};
 ghost use Rattle.ir_parts.specs.Reading.{left_from, ReadsAs};
 ghost use Rattle.ir_parts.specs.Places.{mentions_at};
@@ -79,7 +79,7 @@ fn body(alloc: Global, tokens: &Tokens<'_>, from: usize) -> Result<(Items<Block>
     let (first, behind) = block(alloc, tokens, from)?;
     blocks.push(first)?;
     let mut at = behind;
-    'blocks: while !starts_sign(tokens, at, b'}') {
+    'others: while !starts_sign(tokens, at, b'}') {
         let (next, behind) = block(alloc, tokens, at)?;
         blocks.push(next)?;
         at = behind;

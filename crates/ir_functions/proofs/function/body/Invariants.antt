@@ -10,8 +10,8 @@ use Rattle.ir_functions.proofs.GatheredLists.{made_of}
 use Rattle.ir_functions.proofs.UntilLoops.{UpTo}
 use Rattle.ir_functions.proofs.function.body.Given as goal
 
-abbrev pub invariant-blocks : goal.invariant-blocks
-invariant-blocks l = record {
+abbrev pub invariant-others : goal.invariant-others
+invariant-others l = record {
   middle : ℕ;
   first : Block × List Mention;
   begun : block_at (left_from l.tokens l.from) ≡ Ok (first, left_from l.tokens middle);
@@ -23,5 +23,5 @@ invariant-blocks l = record {
   within : l.at ≤ length l.tokens.tokens;
 }
 
-abbrev pub decreases-blocks : goal.decreases-blocks
-decreases-blocks l = length l.tokens.tokens - l.at
+abbrev pub decreases-others : goal.decreases-others
+decreases-others l = length l.tokens.tokens - l.at
