@@ -20,7 +20,7 @@ use Rattle.ir_parts.proofs.NoneGoesOn.{refused_there}
 use Rattle.ir_parts.proofs.Combined.{pure_reads}
 use Rattle.ir_parts.proofs.SaidNames.{label_there, label_back}
 use Rattle.ir_body.specs.declared.operation.Operation.{Operation}
-use Rattle.ir_body.specs.Telling.{◌⊗◌, made}
+use Rattle.ir_body.specs.Telling.{Telling, ◌⊗◌, made}
 use Rattle.ir_body.proofs.Tellers.{IsTeller, IsMade, told_as, told_reading, both, made_told}
 use Rattle.ir_functions.specs.declared.lines.Line.{Line}
 use Rattle.ir_functions.specs.Lines.{lines_at, instrs_at, instrs_of}
