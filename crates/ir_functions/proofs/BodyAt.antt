@@ -1,5 +1,5 @@
 -- One block or more, and the `}`, as the loop reads them.
-use Rattle.std.proofs.Common.{◌≡◌, ℕ, ◌-◌, ◌≤◌, List, [], ◌∷◌, ◌++◌, length, Result, Ok, Err, refl, sym, ap, ◌∙◌}
+use Rattle.std.proofs.Common.{◌≡◌, ℕ, List, [], ◌∷◌, ◌++◌, Result, Ok, Err, sym, ap, ◌∙◌}
 use Rattle.std.proofs.lemmas.List.{append-nil}
 use Rattle.ir_model.specs.declared.function.Block.{Block}
 use Rattle.ir_text.specs.Tokens.{Lexeme}
@@ -9,7 +9,6 @@ use Rattle.ir_parts.specs.declared.fault.ItemFault.{ItemFault}
 use Rattle.ir_parts.specs.declared.fault.ItemFault.TheVariants.{CannotGoOn, OutOfMemory}
 use Rattle.ir_parts.specs.Reading.{go_on, pure, ReadsAs}
 use Rattle.ir_parts.specs.ListReading.{all_up_to_at}
-use Rattle.ir_parts.proofs.Loops.{faults_on}
 use Rattle.ir_body.specs.Telling.{behind, give, made}
 use Rattle.ir_body.specs.Gathered.{gathered}
 use Rattle.ir_functions.specs.Functions.{block_at, blocks_at, body_at}

@@ -1,7 +1,7 @@
 -- What is made of things that were read one after another, as a loop has it.
-use Rattle.std.proofs.Common.{◌≡◌, ℕ, List, [], ◌∷◌, ◌++◌, map, Result, Ok, Err, refl, sym, ap, ◌∙◌}
+use Rattle.std.proofs.Common.{◌≡◌, ℕ, List, [], ◌∷◌, ◌++◌, Result, Ok, Err, sym, ap, ◌∙◌}
 use Rattle.std.specs.List.{flat_map}
-use Rattle.std.proofs.lemmas.List.{append-nil, map-append}
+use Rattle.std.proofs.lemmas.List.{append-nil}
 use Rattle.std.proofs.lemmas.List.Concat.{flat_map-append}
 use Rattle.ir_text.specs.Tokens.{Lexeme}
 use Rattle.ir_text.specs.Mentions.{Mention}
@@ -12,7 +12,7 @@ use Rattle.ir_parts.specs.Reading.{Read, go_on, pure, ReadsAs}
 use Rattle.ir_parts.specs.Reading as reading
 use Rattle.ir_parts.specs.Places.{mentions_at}
 use Rattle.ir_parts.proofs.Loops.{faults_on}
-use Rattle.ir_body.specs.Telling.{Telling, give, behind, made}
+use Rattle.ir_body.specs.Telling.{give, behind, made}
 use Rattle.ir_body.specs.Gathered.{gathered}
 use Rattle.ir_body.proofs.GatheredLoops.{gathered_more}
 use Rattle.ir_body.proofs.Told.{mentions_append}

@@ -10,7 +10,7 @@ use Rattle.ir_text.specs.Tokens.{Lexeme}
 use Rattle.ir_text.specs.Said.{said_local}
 use Rattle.ir_text.specs.Written.{Name}
 use Rattle.ir_text.specs.Mentions.{Mention, DefinesValue}
-use Rattle.ir_text.specs.Sites.{bare_op, op_sites}
+use Rattle.ir_text.specs.Sites.{bare_op}
 use Rattle.ir_grammar.specs.Functions.{is_terminator}
 use Rattle.ir_lex.specs.Tokenized.{Tokenized}
 use Rattle.ir_parts.specs.declared.ending.Ending.{Ending}
@@ -101,8 +101,13 @@ named_read t value None tail ts after signed rest d s e = absurd (never_none sig
 named_read t value (Some operation) tail ts after signed rest d s e =
     let behind : List Mention = mentions_at t (operation_sites operation) in
     rw (d, s, e) (ap (λ (ms : List Mention).
-    Ok ((named_line (bare_value value, bare_read_operation (Some operation, tail)),
-    mentions_at t (definition_sites value) ++ ms), rest)) (append-nil (behind ++ []) ∙ append-nil behind))
+    Ok (
+      (
+        named_line (bare_value value, bare_read_operation (Some operation, tail)),
+        mentions_at t (definition_sites value) ++ ms,
+      ),
+      rest,
+    )) (append-nil (behind ++ []) ∙ append-nil behind))
 
 -- ---- without one
 

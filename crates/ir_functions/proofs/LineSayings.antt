@@ -9,7 +9,6 @@ use Rattle.ir_grammar.specs.Operations.{the_sign}
 use Rattle.ir_grammar.specs.Functions.{is_terminator, MayHaveResult, SpellsResult, SpellsInstr, dropped_instr}
 use Rattle.ir_parts.specs.declared.ending.Ending.{Ending}
 use Rattle.ir_body.specs.declared.operation.Operation.{Operation}
-use Rattle.ir_body.specs.Telling.{Telling}
 use Rattle.ir_functions.specs.declared.lines.Line.{Line}
 use Rattle.ir_functions.specs.Lines.{instr_of, named_line, numbered_instr, ends_block}
 use Rattle.ir_functions.proofs.GivenValues.{gives_back, gives_none, value_may, call_may, call_or_none, call_ends_none, numbered_value, numbered_none, numbered_op, numbered_spelled}

@@ -22,7 +22,6 @@ use Rattle.ir_parts.proofs.NoneGoesOn.{refused_there}
 use Rattle.ir_parts.proofs.Combined.{behind_token}
 use Rattle.ir_parts.proofs.MetadataReaders.{NoComma, single, parentheses_read, attachments_read}
 use Rattle.ir_body.specs.declared.operation.Operation.{Operation}
-use Rattle.ir_body.specs.Telling.{Telling}
 use Rattle.ir_parts.proofs.SaidNames.{local_there, local_back}
 use Rattle.ir_body.proofs.Tellers.{IsTeller, silent_tells, made_tells, both, skip, sign_tells}
 use Rattle.ir_functions.specs.declared.lines.Line.{Line}

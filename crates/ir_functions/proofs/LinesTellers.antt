@@ -12,7 +12,6 @@ use Rattle.ir_parts.specs.declared.ending.Ending.{Ending}
 use Rattle.ir_parts.specs.Reading.{is_punctuation}
 use Rattle.ir_parts.proofs.Readers.{StopsAt}
 use Rattle.ir_body.specs.declared.operation.Operation.{Operation}
-use Rattle.ir_body.specs.Telling.{Telling}
 use Rattle.ir_body.proofs.Tellers.{IsTeller}
 use Rattle.ir_functions.specs.declared.lines.Line.{Line}
 use Rattle.ir_functions.specs.Lines.{ends_block, lines_at, with_instr, instrs_of}

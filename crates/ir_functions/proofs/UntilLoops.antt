@@ -9,7 +9,7 @@ use Rattle.ir_parts.specs.Reading.{Read, ◌>>=◌, go_on, pure, ◌▷◌, made
 use Rattle.ir_parts.specs.ListReading.{until_at, all_until_at, up_to_at, all_up_to_at}
 use Rattle.ir_parts.proofs.Places.{shorter_left}
 use Rattle.ir_parts.proofs.Readers.{chosen_first, chosen_other}
-use Rattle.ir_parts.proofs.Loops.{with_earlier, faults_on}
+use Rattle.ir_parts.proofs.Loops.{with_earlier}
 
 regroup : {A : Type 0} (earlier : List A) (x : A) (read : Result (List A × List Lexeme) ℕ)
     → with_earlier earlier (go_on read (λ xs. pure (x ∷ xs))) ≡ with_earlier (earlier ++ x ∷ []) read

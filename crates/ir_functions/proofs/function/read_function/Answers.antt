@@ -9,7 +9,10 @@ use Rattle.ir_functions.proofs.function.read_function.Goals as goal
 
 pub returns-clause-sentence : goal.returns-clause-sentence
 returns-clause-sentence c =
-    let view : Function → Function × List Mention = λ f. (bare_function f, mentions_at c.args.tokens.now
-    (function_sites f)) in
+    let view : Function → Function × List Mention = λ f. (
+      bare_function f,
+      mentions_at c.args.tokens.now
+          (function_sites f),
+    ) in
     tells_as view functions_are_read.reader c.args.tokens.now c.args.from c.requires c.function.result
     c.function.ensures.value
