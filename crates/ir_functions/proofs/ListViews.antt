@@ -1,5 +1,6 @@
 -- Arguments, parameters, instructions and blocks without ids, and one more of them.
 use Rattle.std.proofs.Common.{◌≡◌, List, [], ◌∷◌, ◌++◌, map, Option, Some, None, refl, sym, ap, ◌∙◌}
+use Rattle.std.specs.Option.{option_map}
 use Rattle.std.proofs.lemmas.List.{append-nil, map-append}
 use Rattle.ir_model.specs.declared.function.Param.{Param}
 use Rattle.ir_model.specs.declared.function.Instr.{Instr}
@@ -17,7 +18,7 @@ use Rattle.ir_functions.specs.Arguments.{arguments_of}
 use Rattle.ir_functions.specs.ArgumentViews.{bare_argument, argument_sites, bare_arguments, arguments_sites}
 use Rattle.ir_functions.specs.Lines.{with_instr, instrs_of}
 use Rattle.ir_functions.specs.Functions.{params_of}
-use Rattle.ir_functions.specs.Views.{bare_read_param, param_sites, bare_params, params_sites, bare_line, line_sites, bare_instrs, instrs_sites, bare_blocks, blocks_sites}
+use Rattle.ir_functions.specs.Views.{bare_read_param, param_sites, bare_params, params_sites, bare_line, line_sites, bare_instrs, instrs_sites, instr_sites_if_any, bare_blocks, blocks_sites}
 use Rattle.ir_functions.proofs.GatheredLists.{made_of, made_more, sites_more}
 
 -- ---- arguments
@@ -97,7 +98,7 @@ bare_put : (instrs : List Instr) (line : Line) → bare_instrs (put_line instrs 
 bare_put instrs line = of line.instr
   where
     of : (o : Option Instr) → bare_instrs (instrs ++ with_instr o [])
-        ≡ bare_instrs instrs ++ with_instr (let line : Line = record { instr = o; tail = None } in (bare_line line).instr) []
+        ≡ bare_instrs instrs ++ with_instr (option_map bare_instr o) []
     of None = ap bare_instrs (append-nil instrs) ∙ sym (append-nil (bare_instrs instrs))
     of (Some instr) = map-append bare_instr instrs (instr ∷ [])
 
@@ -107,8 +108,7 @@ sites_put : (t : Tokenized) (instrs : List Instr) (line : Line)
 sites_put t instrs line = of line.instr
   where
     of : (o : Option Instr) → mentions_at t (instrs_sites (instrs ++ with_instr o []))
-        ≡ mentions_at t (instrs_sites instrs)
-        ++ mentions_at t (let line : Line = record { instr = o; tail = None } in line_sites line)
+        ≡ mentions_at t (instrs_sites instrs) ++ mentions_at t (instr_sites_if_any o)
     of None =
         ap (λ (instrs : List Instr). mentions_at t (instrs_sites instrs)) (append-nil instrs)
         ∙ sym (append-nil (mentions_at t (instrs_sites instrs)))

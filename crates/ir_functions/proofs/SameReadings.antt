@@ -43,7 +43,8 @@ both_same {A} {B} a b c same ts = of (a ts)
 
 pub made_same : {A B : Type 0} (f : A → B) (b c : Telling A) → ((ts : List Lexeme) → b ts ≡ c ts)
     → (ts : List Lexeme) → made f b ts ≡ made f c ts
-made_same {A} {B} f b c same ts = ap (λ (r : Told A). go_on {B = B × List Mention} r (λ x rest. behind x.1 (give (f x.0) rest))) (same ts)
+made_same {A} {B} f b c same ts =
+    ap (λ (r : Told A). go_on {B = B × List Mention} r (λ x rest. behind x.1 (give (f x.0) rest))) (same ts)
 
 -- ---- what is read silently
 

@@ -19,8 +19,8 @@ use ir_parts::{ItemFault, behind_sign, starts_sign};
 use sqlite_items::Items;
 use std::alloc::{AllocError, Global};
 
-/// A function with a body, and the place behind its `}`. Each id in it is the position of a token: of the name, or, where
-/// what is defined has none, of the first token of what is defined. Its tables are empty.
+/// A function with a body, and the place behind its `}`. Each id in it is the position of a token: of the name, or,
+/// where what is defined has none, of the first token of what is defined. Its tables are empty.
 ///
 /// Seen without ids and with the names that are mentioned, it is what the tokens spell. A fault stands at the first
 /// token with which no function goes on.

@@ -39,8 +39,8 @@ returns-in_err-next-clause-value c =
     let p = err_from_is_err_and c.from_residual.result c.from_residual.ensures.1 in
     let so_far = c.lines.invariant.reading in
     let total = all_until_at last line_at (left_from t c.args.from) in
-    let loop = subst (λ (ended : Bool). Stands last line_at ended so_far.0 (left_from t c.lines.at) total) c.lines-test.true
-    so_far.2 in
+    let loop = subst (λ (ended : Bool). Stands last line_at ended so_far.0 (left_from t c.lines.at) total)
+    c.lines-test.true so_far.2 in
     rw (p.1, p.2) (made_faults instrs_of all (instrs_seen t) (all_until_at last line_at) t c.in_err-next.field-0.0
     (left_from t c.args.from)
     (until_faults last line_at (seen t) all t c.in_err-next.field-0.0 so_far.0 (left_from t c.lines.at) total
@@ -52,8 +52,8 @@ lines-preserved c =
     let so_far = c.lines.invariant.reading in
     let next = seen t c.in_ok-next.next in
     let total = all_until_at last line_at (left_from t c.args.from) in
-    let loop = subst (λ (ended : Bool). Stands last line_at ended so_far.0 (left_from t c.lines.at) total) c.lines-test.true
-    so_far.2 in
+    let loop = subst (λ (ended : Bool). Stands last line_at ended so_far.0 (left_from t c.lines.at) total)
+    c.lines-test.true so_far.2 in
     record {
       reading = rw c.in_ok-push_instr.ensures (
         so_far.0 ++ next ∷ [],
