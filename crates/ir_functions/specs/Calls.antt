@@ -1,5 +1,5 @@
 -- Reading calls, and calls that are dropped, with the attachments behind them.
-use Rattle.std.specs.Prelude.{ℕ, Bool, false, ◌||◌, not, if◌then◌else◌, List, [], ◌∷◌, ◌++◌, map, Option, Some, None, codes, decimal}
+use Rattle.std.specs.Prelude.{ℕ, Bool, false, ◌||◌, not, if◌then◌else◌, List, [], ◌∷◌, ◌++◌, Option, Some, None, codes, decimal}
 use Rattle.std.specs.List.{list_any}
 use Rattle.std.specs.Option.{option_and_then}
 use Rattle.std.specs.Str.{bytes_eq}
@@ -13,15 +13,16 @@ use Rattle.ir_grammar.specs.Functions.{is_dropped_name}
 use Rattle.ir_parts.specs.declared.ending.Ending.{Ending}
 use Rattle.ir_parts.specs.declared.ending.Run.{Run}
 use Rattle.ir_parts.specs.Reading.{Read, one_at}
+use Rattle.ir_parts.specs.WordsReading.{parentheses_at}
 use Rattle.ir_parts.specs.Reading as reading
 use Rattle.ir_body.specs.declared.operation.Operation.{Operation}
 use Rattle.ir_body.specs.Telling.{Telling, ◌>>=◌, ◌⊗◌, ◌▷◌, made, silently, sign_at}
-use Rattle.ir_functions.specs.declared.arguments.Argument.{Argument}
+use Rattle.ir_functions.specs.declared.argument_list.Arguments.{Arguments}
 use Rattle.ir_functions.specs.declared.calls.CallHead.{CallHead}
 use Rattle.ir_functions.specs.declared.calls.Callee.{Callee}
 use Rattle.ir_functions.specs.declared.calls.Callee.TheVariants.{Dropped, Named}
-use Rattle.ir_functions.specs.Arguments.{arguments_at}
-use Rattle.ir_functions.specs.Silent.{head_at, trailing_at, dropped_call_at}
+use Rattle.ir_functions.specs.Arguments.{given_at}
+use Rattle.ir_functions.specs.Silent.{head_at, trailing_at}
 
 -- ---- the callee
 
@@ -56,18 +57,18 @@ unfoldable pub ended_at : Read (List ℕ × Option Ending)
 ended_at = reading.made (λ p. (p.0.1, tail_of p)) trailing_at
 
 unfoldable pub dropped_at : Telling (Option Operation × Option Ending)
-dropped_at = made (λ p. (None, tail_of p)) (silently dropped_call_at)
+dropped_at = made (λ t. (None, t.1)) (silently parentheses_at ▷ silently ended_at)
 
 -- the call, with the texts of its passed-on words in order
-abbrev pub call_of : CallHead → List ℕ → List Argument → List ℕ → Operation
+abbrev pub call_of : CallHead → List ℕ → Arguments → List ℕ → Operation
 call_of head name args after = record {
-  op = Call head.ret name (map (λ (arg : Argument). arg.typed) args);
-  words = head.tail ∷ head.before ∷ (map (λ (arg : Argument). arg.words) args ++ after ∷ []);
+  op = Call head.ret name args.typed;
+  words = head.tail ∷ head.before ∷ (args.words ++ after ∷ []);
 }
 
 unfoldable pub called_at : CallHead → List ℕ → Telling (Option Operation × Option Ending)
-called_at head name = made (λ p. (Some (call_of head name p.0 p.1.0.1), tail_of p.1))
-    (sign_at 40 ▷ (arguments_at ⊗ silently trailing_at))
+called_at head name = made (λ p. (Some (call_of head name p.0 p.1.0), p.1.1))
+    (sign_at 40 ▷ (given_at ⊗ silently ended_at))
 
 abbrev pub behind_callee_at : CallHead → Callee → Telling (Option Operation × Option Ending)
 behind_callee_at head Dropped = dropped_at

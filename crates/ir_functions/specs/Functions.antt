@@ -13,16 +13,15 @@ use Rattle.ir_text.specs.Said.{said_label, said_global}
 use Rattle.ir_text.specs.Mentions.{Mention, DefinesValue, DefinesBlock}
 use Rattle.ir_parts.specs.declared.ending.Ending.{Ending}
 use Rattle.ir_parts.specs.declared.ending.Run.{Run}
-use Rattle.ir_parts.specs.Reading.{Read, one_at, choose}
+use Rattle.ir_parts.specs.Reading.{Read, is_punctuation, punctuation_at, one_at, choose}
 use Rattle.ir_parts.specs.Reading as reading
 use Rattle.ir_parts.specs.TypeReading.{scalar_type_at, returned_type_at}
 use Rattle.ir_parts.specs.MetadataReading.{pairs_at}
-use Rattle.ir_parts.specs.ListReading.{listed_at, all_up_to_at}
-use Rattle.ir_body.specs.declared.operation.Operation.{Operation}
-use Rattle.ir_body.specs.Telling.{Telling, silently, made, word_at, sign_at, ◌⊗◌, ◌▷◌}
+use Rattle.ir_parts.specs.ListReading.{with_commas_at, listed_at, all_up_to_at}
+use Rattle.ir_body.specs.Telling.{Telling, give, silently, made, word_at, sign_at, ◌⊗◌, ◌▷◌, ◌◁◌}
 use Rattle.ir_body.specs.Gathered.{gathered}
 use Rattle.ir_parts.specs.WordsReading.{words_at}
-use Rattle.ir_functions.specs.Lines.{defined_at, is_local, lines_at, instrs_of}
+use Rattle.ir_functions.specs.Lines.{defined_at, is_local, instrs_at}
 
 -- ---- blocks
 
@@ -42,8 +41,8 @@ is_label t = is_some (said_label t)
 unfoldable pub block_name_at : Telling BlockId
 block_name_at = choose is_label label_at no_label_at
 
-unfoldable pub block_at : (Bool → Telling Operation) → Telling Block
-block_at op_at = made (λ p. record { id = p.0; instrs = instrs_of p.1 }) (block_name_at ⊗ lines_at op_at)
+unfoldable pub block_at : Telling Block
+block_at = made (λ p. record { id = p.0; instrs = p.1 }) (block_name_at ⊗ instrs_at)
 
 -- ---- parameters
 
@@ -74,10 +73,26 @@ params_of params = map (λ (p : Param × Option Ending). p.0) params
 unfoldable pub params_at : Telling (List (Param × Option Ending))
 params_at = reading.made gathered (listed_at param_at 41)
 
+-- one parameter or more
+unfoldable pub some_params_at : Telling (List Param)
+some_params_at = made params_of (reading.made gathered (with_commas_at param_at))
+
+-- one more, behind a comma
+unfoldable pub next_param_at : Telling (Param × Option Ending)
+next_param_at = reading.◌▷◌ (punctuation_at 44) param_at
+
+-- all parameters, and the `)`
+unfoldable pub taken_params_at : Telling (List Param)
+taken_params_at = choose (is_punctuation 41) (sign_at 41 ▷ give []) (some_params_at ◁ sign_at 41)
+
 -- ---- functions
 
-unfoldable pub blocks_at : (Bool → Telling Operation) → Telling (List Block)
-blocks_at op_at = reading.made gathered (all_up_to_at 125 (block_at op_at))
+unfoldable pub blocks_at : Telling (List Block)
+blocks_at = reading.made gathered (all_up_to_at 125 block_at)
+
+-- one block or more, up to the `}`
+unfoldable pub body_at : Telling (List Block)
+body_at = made (λ p. p.0 ∷ p.1) (block_at ⊗ blocks_at)
 
 -- what stands before the parameters: words, the type, and the name
 unfoldable pub signature_at : Telling ((Run × List ℕ) × (IrType × List ℕ))
@@ -88,18 +103,18 @@ signature_at = word_at (codes "define") ▷ silently words_at
 unfoldable pub opening_at : Telling (Run × List ℕ)
 opening_at = made (λ p. p.0) (silently words_at ⊗ (silently pairs_at ▷ sign_at 123))
 
-abbrev pub function_of : ((Run × List ℕ) × (IrType × List ℕ))
-    × (List (Param × Option Ending) × ((Run × List ℕ) × (Block × List Block))) → Function
+abbrev pub function_of : ((Run × List ℕ) × (IrType × List ℕ)) × (List Param × ((Run × List ℕ) × List Block))
+    → Function
 function_of p = record {
   name = p.0.1.1;
   words = p.0.0.1 ∷ p.1.1.0.1 ∷ [];
   ret = p.0.1.0;
-  params = params_of p.1.0;
-  blocks = p.1.1.1.0 ∷ p.1.1.1.1;
+  params = p.1.0;
+  blocks = p.1.1.1;
   values = [];
   labels = [];
 }
 
-unfoldable pub function_at : (Bool → Telling Operation) → Telling Function
-function_at op_at = made function_of
-    (signature_at ⊗ (sign_at 40 ▷ (params_at ⊗ (opening_at ⊗ (block_at op_at ⊗ blocks_at op_at)))))
+unfoldable pub function_at : Telling Function
+function_at = made function_of
+    (signature_at ⊗ (sign_at 40 ▷ (taken_params_at ⊗ (opening_at ⊗ body_at))))

@@ -1,19 +1,23 @@
 //! Calls.
 
 ghost use Rattle.std.specs.Prelude.{◌≡◌, ◌<◌, ◌≤◌, length, IfOk, if◌then◌else◌, Some, None};
-ghost use Rattle.ir_parts.specs.Reading.{left_from, one_at, Reads};
+ghost use Rattle.ir_parts.specs.Reading.{left_from, one_at, Reads, ReadsAs};
+ghost use Rattle.ir_parts.specs.Places.{mentions_at};
 ghost use Rattle.ir_functions.specs.Silent.{tail_at, head_at};
-ghost use Rattle.ir_functions.specs.Calls.{callee_named, callee_of, ended_at};
+ghost use Rattle.ir_functions.specs.Calls.{callee_named, callee_of, ended_at, dropped_at, call_of, called_at, call_at};
+ghost use Rattle.ir_functions.specs.Views.{bare_read_operation, read_operation_sites};
 
+use crate::argument_list::{Arguments, read_arguments};
 use crate::callee::{is_dropped_name, is_intrinsic, is_minimum};
-use ir_body::read_flag;
+use ir_body::{Operation, read_flag};
 use ir_lex::Tokens;
-use ir_model::{IrType, Text};
+use ir_model::{IrType, Op, Text};
 use ir_parts::{
-    Ending, ItemFault, behind_keyword, read_global_name, read_returned_type, skip_metadata,
-    text_between, words,
+    Ending, ItemFault, behind_keyword, behind_sign, parentheses, read_global_name,
+    read_returned_type, skip_metadata, text_between, words,
 };
-use std::alloc::Global;
+use sqlite_items::Items;
+use std::alloc::{AllocError, Global};
 
 /// What stands before the callee of a call: the texts of `tail` and `notail` and of the passed-on words, and the type
 /// of what is returned.
@@ -120,4 +124,86 @@ fn ending_if(alone: bool, ending: Ending) -> Option<Ending>
     ensures { result ≡ (if alone then Some ending else None) }
 {
     if alone { Some(ending) } else { None }
+}
+
+/// A call that is dropped, from behind its callee.
+#[tactic(auto, unfolding(crate::specs::Calls::dropped_at), using(ir_body::proofs::Told::told))]
+fn dropped(
+    alloc: Global,
+    tokens: &Tokens<'_>,
+    from: usize,
+) -> Result<((Option<Operation>, Option<Ending>), usize), ItemFault>
+    requires { from ≤ length tokens.now.tokens }
+    ensures value { ReadsAs (λ p. (bare_read_operation p, mentions_at tokens.now (read_operation_sites p))) tokens.now
+        result (dropped_at (left_from tokens.now from)) }
+    ensures forth { IfOk result (λ read. (from < read.1) × (read.1 ≤ length tokens.now.tokens)) }
+{
+    let at = parentheses(alloc, tokens, from)?;
+    let ((_, tail), at) = read_behind(alloc, tokens, at)?;
+    Ok(((None, tail), at))
+}
+
+/// A call of a function that is named, from behind its callee.
+#[tactic(auto, unfolding(crate::specs::Calls::called_at), using(ir_body::proofs::Told::told))]
+fn called(
+    alloc: Global,
+    tokens: &Tokens<'_>,
+    from: usize,
+    head: CallHead,
+    name: Text,
+) -> Result<((Option<Operation>, Option<Ending>), usize), ItemFault>
+    requires { from ≤ length tokens.now.tokens }
+    ensures value { ReadsAs (λ p. (bare_read_operation p, mentions_at tokens.now (read_operation_sites p))) tokens.now
+        result (called_at head name (left_from tokens.now from)) }
+    ensures forth { IfOk result (λ read. (from < read.1) × (read.1 ≤ length tokens.now.tokens)) }
+{
+    let at = behind_sign(tokens, from, b'(')?;
+    let (args, at) = read_arguments(alloc, tokens, at)?;
+    let ((after, tail), at) = read_behind(alloc, tokens, at)?;
+    let operation = call_of(alloc, head, name, args, after)?;
+    Ok(((Some(operation), tail), at))
+}
+
+/// The call, with the texts of its passed-on words in order.
+fn call_of(
+    alloc: Global,
+    head: CallHead,
+    name: Text,
+    args: Arguments,
+    after: Text,
+) -> Result<Operation, AllocError>
+    ensures { IfOk result (λ operation. operation ≡ call_of head name args after) }
+{
+    let mut words = Items::new(alloc);
+    words.push(head.tail)?;
+    words.push(head.before)?;
+    words.append(args.words)?;
+    words.push(after)?;
+    let op = Op::Call {
+        ret: head.ret,
+        callee: name,
+        args: args.typed,
+    };
+    Ok(Operation { op, words })
+}
+
+/// A call, or none where it is dropped; and how the passed-on words behind it end, where no attachment stands there.
+#[tactic(auto, unfolding(crate::specs::Calls::call_at), using(ir_body::proofs::Told::told))]
+pub(crate) fn read_call(
+    alloc: Global,
+    tokens: &Tokens<'_>,
+    from: usize,
+    has_result: bool,
+) -> Result<((Option<Operation>, Option<Ending>), usize), ItemFault>
+    requires { from ≤ length tokens.now.tokens }
+    ensures value { ReadsAs (λ p. (bare_read_operation p, mentions_at tokens.now (read_operation_sites p))) tokens.now
+        result (call_at has_result (left_from tokens.now from)) }
+    ensures forth { IfOk result (λ read. (from < read.1) × (read.1 ≤ length tokens.now.tokens)) }
+{
+    let (head, at) = read_head(alloc, tokens, from)?;
+    let (callee, at) = read_callee(alloc, tokens, at, has_result, &head.ret)?;
+    match callee {
+        Callee::Dropped => dropped(alloc, tokens, at),
+        Callee::Named(name) => called(alloc, tokens, at, head, name),
+    }
 }

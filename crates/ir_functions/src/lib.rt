@@ -3,11 +3,17 @@
 //! token.
 #![tactic(auto)]
 
+mod argument_list;
 mod arguments;
 mod callee;
 mod calls;
 mod definitions;
+mod function;
 mod labels;
 mod lines;
+mod param_list;
 mod params;
+mod records;
 mod signature;
+
+pub use function::read_function;
