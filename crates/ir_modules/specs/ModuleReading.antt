@@ -1,0 +1,11 @@
+-- What the answer of the reader says of the bytes.
+use Rattle.std.specs.Prelude.{ℕ, List}
+use Rattle.ir_grammar.specs.Spelled.{IsNotInGrammar, IsUnsupported}
+use Rattle.ir_modules.specs.declared.fault.ReadFault.{ReadFault}
+use Rattle.ir_modules.specs.declared.fault.ReadFault.TheVariants.{NotInGrammar, Unsupported, OutOfMemory}
+
+-- The bytes are refused so, unless memory ran out.
+abbrev pub IsFaultOf : List ℕ → ReadFault → Type 0
+IsFaultOf bytes (NotInGrammar at) = IsNotInGrammar bytes at
+IsFaultOf bytes (Unsupported number at) = IsUnsupported bytes number at
+IsFaultOf bytes OutOfMemory = Unit {0}
