@@ -17,5 +17,7 @@ pub mod FineLayouts
 pub mod LineReaders
 pub mod DroppedReaders
 pub mod DeclaredReaders
+pub mod MadeLists
+pub mod DeclareReader
 pub mod TailLoop
 pub mod GlobalSpelled
