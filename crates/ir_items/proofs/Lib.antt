@@ -19,5 +19,6 @@ pub mod DroppedReaders
 pub mod DeclaredReaders
 pub mod MadeLists
 pub mod DeclareReader
+pub mod LastTokens
 pub mod TailLoop
 pub mod GlobalSpelled
