@@ -1,8 +1,11 @@
 -- Parts of operations without ids, and the ids in them.
 use Rattle.std.specs.Prelude.{List, [], ◌∷◌, ◌++◌, map}
+use Rattle.std.specs.List.{flat_map}
 use Rattle.scev_base.specs.declared.ids.BlockId.{BlockId}
 use Rattle.ir_model.specs.declared.op.Case.{Case}
-use Rattle.ir_text.specs.Sites.{Site, UsesBlock, operand_sites, bare_operand, op_sites, bare_op, bare_case}
+use Rattle.ir_model.specs.declared.op.PhiEntry.{PhiEntry}
+use Rattle.ir_model.specs.declared.op.TypedOperand.{TypedOperand}
+use Rattle.ir_text.specs.Sites.{Site, UsesBlock, operand_sites, bare_operand, typed_sites, bare_typed, entry_sites, bare_entry, op_sites, bare_op, bare_case}
 use Rattle.ir_body.specs.declared.operands.Two.{Two}
 use Rattle.ir_body.specs.declared.operation.Operation.{Operation}
 
@@ -34,3 +37,17 @@ bare_cases cases = map bare_case cases
 
 abbrev pub cases_sites : List Case → List Site
 cases_sites cases = map (λ (c : Case). UsesBlock c.to.0) cases
+
+-- ---- operands with their types, and entries of phis
+
+abbrev pub bare_indices : List TypedOperand → List TypedOperand
+bare_indices indices = map bare_typed indices
+
+abbrev pub indices_sites : List TypedOperand → List Site
+indices_sites indices = flat_map typed_sites indices
+
+abbrev pub bare_entries : List PhiEntry → List PhiEntry
+bare_entries entries = map bare_entry entries
+
+abbrev pub entries_sites : List PhiEntry → List Site
+entries_sites entries = flat_map entry_sites entries

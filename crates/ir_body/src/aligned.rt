@@ -98,7 +98,7 @@ fn with_align(alloc: Global, op: Op, align: Text) -> Result<Operation, ItemFault
 
 /// A type, and maybe an alignment.
 #[tactic(auto, unfolding(crate::specs::Aligned::alloca_at), using(crate::proofs::Told::told))]
-pub fn read_alloca(
+pub(crate) fn read_alloca(
     alloc: Global,
     tokens: &Tokens<'_>,
     from: usize,
@@ -116,7 +116,7 @@ pub fn read_alloca(
 
 /// A type of integers, a pointer, and maybe an alignment.
 #[tactic(auto, unfolding(crate::specs::Aligned::load_at), using(crate::proofs::Told::told))]
-pub fn read_load(
+pub(crate) fn read_load(
     alloc: Global,
     tokens: &Tokens<'_>,
     from: usize,
@@ -140,7 +140,7 @@ pub fn read_load(
 
 /// A type of integers, an operand, a pointer, and maybe an alignment.
 #[tactic(auto, unfolding(crate::specs::Aligned::store_at), using(crate::proofs::Told::told))]
-pub fn read_store(
+pub(crate) fn read_store(
     alloc: Global,
     tokens: &Tokens<'_>,
     from: usize,

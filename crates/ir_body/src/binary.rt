@@ -1,9 +1,10 @@
-//! Operations of two operands, comparisons and `freeze`, from behind their opcode.
+//! Operations of two operands, comparisons and `freeze`, from behind their opcode, with the attachments behind them.
 
 ghost use Rattle.std.specs.Prelude.{◌≡◌, ◌<◌, ◌≤◌, length, IfOk};
 ghost use Rattle.ir_parts.specs.Reading.{left_from, ReadsAs};
 ghost use Rattle.ir_parts.specs.Places.{mentions_at};
 ghost use Rattle.ir_body.specs.Plain.{binary_at, comparison_at, freeze_at};
+ghost use Rattle.ir_body.specs.Operation.{attached};
 ghost use Rattle.ir_body.specs.Views.{bare_operation, operation_sites};
 
 use crate::flags::{behind_dropped, read_flags};
@@ -12,13 +13,13 @@ use crate::operands::{read_two, read_typed};
 use crate::operation::Operation;
 use ir_lex::Tokens;
 use ir_model::{BinOp, Op};
-use ir_parts::ItemFault;
+use ir_parts::{ItemFault, skip_metadata};
 use sqlite_items::Items;
 use std::alloc::Global;
 
-/// Flags and two operands.
+/// Flags, two operands, and attachments.
 #[tactic(auto, unfolding(crate::specs::Plain::binary_at), using(crate::proofs::Told::told))]
-pub fn read_binary(
+pub(crate) fn read_binary(
     alloc: Global,
     tokens: &Tokens<'_>,
     from: usize,
@@ -26,11 +27,12 @@ pub fn read_binary(
 ) -> Result<(Operation, usize), ItemFault>
     requires { from ≤ length tokens.now.tokens }
     ensures value { ReadsAs (λ x. (bare_operation x, mentions_at tokens.now (operation_sites x))) tokens.now result
-        (binary_at op (left_from tokens.now from)) }
+        (attached (binary_at op) (left_from tokens.now from)) }
     ensures forth { IfOk result (λ read. (from < read.1) × (read.1 ≤ length tokens.now.tokens)) }
 {
     let (flags, at) = read_flags(tokens, from, op);
     let (two, at) = read_two(tokens, at)?;
+    let at = skip_metadata(alloc, tokens, at)?;
     let op = Op::Binary {
         op,
         nuw: flags.nuw,
@@ -45,21 +47,22 @@ pub fn read_binary(
     Ok((Operation { op, words }, at))
 }
 
-/// `samesign` or nothing, a predicate, and two operands.
+/// `samesign` or nothing, a predicate, two operands, and attachments.
 #[tactic(auto, unfolding(crate::specs::Plain::comparison_at), using(crate::proofs::Told::told))]
-pub fn read_comparison(
+pub(crate) fn read_comparison(
     alloc: Global,
     tokens: &Tokens<'_>,
     from: usize,
 ) -> Result<(Operation, usize), ItemFault>
     requires { from ≤ length tokens.now.tokens }
     ensures value { ReadsAs (λ x. (bare_operation x, mentions_at tokens.now (operation_sites x))) tokens.now result
-        (comparison_at (left_from tokens.now from)) }
+        (attached comparison_at (left_from tokens.now from)) }
     ensures forth { IfOk result (λ read. (from < read.1) × (read.1 ≤ length tokens.now.tokens)) }
 {
     let at = behind_dropped(tokens, from, b"samesign");
     let (pred, at) = read_predicate(tokens, at)?;
     let (two, at) = read_two(tokens, at)?;
+    let at = skip_metadata(alloc, tokens, at)?;
     let op = Op::Icmp {
         pred,
         kind: two.kind,
@@ -70,19 +73,20 @@ pub fn read_comparison(
     Ok((Operation { op, words }, at))
 }
 
-/// An operand with its type, behind `freeze`.
+/// An operand with its type, and attachments.
 #[tactic(auto, unfolding(crate::specs::Plain::freeze_at), using(crate::proofs::Told::told))]
-pub fn read_freeze(
+pub(crate) fn read_freeze(
     alloc: Global,
     tokens: &Tokens<'_>,
     from: usize,
 ) -> Result<(Operation, usize), ItemFault>
     requires { from ≤ length tokens.now.tokens }
     ensures value { ReadsAs (λ x. (bare_operation x, mentions_at tokens.now (operation_sites x))) tokens.now result
-        (freeze_at (left_from tokens.now from)) }
+        (attached freeze_at (left_from tokens.now from)) }
     ensures forth { IfOk result (λ read. (from < read.1) × (read.1 ≤ length tokens.now.tokens)) }
 {
     let (typed, at) = read_typed(tokens, from)?;
+    let at = skip_metadata(alloc, tokens, at)?;
     let op = Op::Freeze {
         kind: typed.kind,
         value: typed.value,

@@ -1,26 +1,40 @@
-//! Branches and returns, from behind their opcode.
+//! Branches and returns, from behind their opcode, with the attachments behind them.
 
 ghost use Rattle.std.specs.Prelude.{◌≡◌, ◌<◌, ◌≤◌, length, IfOk};
 ghost use Rattle.ir_parts.specs.Reading.{left_from, ReadsAs};
 ghost use Rattle.ir_parts.specs.Places.{mentions_at};
 ghost use Rattle.ir_body.specs.Plain.{jump_at, branch_at, br_at, nothing_returned_at, value_returned_at, ret_at};
+ghost use Rattle.ir_body.specs.Operation.{attached};
 ghost use Rattle.ir_body.specs.Views.{bare_operation, operation_sites};
 
 use crate::operands::{read_operand, read_target, read_typed};
 use crate::operation::Operation;
 use ir_lex::Tokens;
 use ir_model::Op;
-use ir_parts::{ItemFault, behind_keyword, behind_sign, starts_keyword};
+use ir_parts::{ItemFault, behind_keyword, behind_sign, skip_metadata, starts_keyword};
 use sqlite_items::Items;
 use std::alloc::Global;
 
-/// What stands behind `br`.
-#[tactic(auto, unfolding(crate::specs::Plain::br_at))]
-pub fn read_br(
+/// A jump or a branch, and attachments.
+#[tactic(auto, using(crate::proofs::Told::told))]
+pub(crate) fn read_br(
     alloc: Global,
     tokens: &Tokens<'_>,
     from: usize,
 ) -> Result<(Operation, usize), ItemFault>
+    requires { from ≤ length tokens.now.tokens }
+    ensures value { ReadsAs (λ x. (bare_operation x, mentions_at tokens.now (operation_sites x))) tokens.now result
+        (attached br_at (left_from tokens.now from)) }
+    ensures forth { IfOk result (λ read. (from < read.1) × (read.1 ≤ length tokens.now.tokens)) }
+{
+    let (operation, at) = br(alloc, tokens, from)?;
+    let at = skip_metadata(alloc, tokens, at)?;
+    Ok((operation, at))
+}
+
+/// What stands behind `br`.
+#[tactic(auto, unfolding(crate::specs::Plain::br_at))]
+fn br(alloc: Global, tokens: &Tokens<'_>, from: usize) -> Result<(Operation, usize), ItemFault>
     requires { from ≤ length tokens.now.tokens }
     ensures value { ReadsAs (λ x. (bare_operation x, mentions_at tokens.now (operation_sites x))) tokens.now result
         (br_at (left_from tokens.now from)) }
@@ -64,13 +78,26 @@ fn branch(alloc: Global, tokens: &Tokens<'_>, from: usize) -> Result<(Operation,
     Ok((Operation { op, words }, at))
 }
 
-/// What stands behind `ret`.
-#[tactic(auto, unfolding(crate::specs::Plain::ret_at))]
-pub fn read_ret(
+/// A return, and attachments.
+#[tactic(auto, using(crate::proofs::Told::told))]
+pub(crate) fn read_ret(
     alloc: Global,
     tokens: &Tokens<'_>,
     from: usize,
 ) -> Result<(Operation, usize), ItemFault>
+    requires { from ≤ length tokens.now.tokens }
+    ensures value { ReadsAs (λ x. (bare_operation x, mentions_at tokens.now (operation_sites x))) tokens.now result
+        (attached ret_at (left_from tokens.now from)) }
+    ensures forth { IfOk result (λ read. (from < read.1) × (read.1 ≤ length tokens.now.tokens)) }
+{
+    let (operation, at) = ret(alloc, tokens, from)?;
+    let at = skip_metadata(alloc, tokens, at)?;
+    Ok((operation, at))
+}
+
+/// What stands behind `ret`.
+#[tactic(auto, unfolding(crate::specs::Plain::ret_at))]
+fn ret(alloc: Global, tokens: &Tokens<'_>, from: usize) -> Result<(Operation, usize), ItemFault>
     requires { from ≤ length tokens.now.tokens }
     ensures value { ReadsAs (λ x. (bare_operation x, mentions_at tokens.now (operation_sites x))) tokens.now result
         (ret_at (left_from tokens.now from)) }

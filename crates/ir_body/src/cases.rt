@@ -1,4 +1,4 @@
-//! Switches, from behind their opcode.
+//! Switches and `unreachable`, from behind their opcode, with the attachments behind them.
 
 ghost use Rattle.std.specs.Prelude.{◌≡◌, ◌+◌, ◌^◌, ◌<◌, ◌≤◌, length, IfOk, IfErr, IfSome, IsTrue, Some, None, ℤ};
 ghost use Rattle.std.specs.Str.Parse.{signed_digits_value};
@@ -7,26 +7,29 @@ ghost use Rattle.ir_parts.specs.Reading.{left_from, first_given, begins, Reads, 
 ghost use Rattle.ir_parts.specs.Places.{mentions_at};
 ghost use Rattle.ir_body.specs.Cases.{number_word, number_of, number_at, number_or_fault, case_at, begins_scalar, cases_at, switch_at, unreachable_at};
 ghost use Rattle.ir_text.specs.Sites.{bare_case};
+ghost use Rattle.ir_body.specs.Operation.{attached};
 ghost use Rattle.ir_body.specs.Views.{bare_operation, operation_sites, case_sites, bare_cases, cases_sites};
 
 use crate::operands::{read_target, read_typed};
 use crate::operation::Operation;
 use ir_lex::{TokenKind, Tokens, signed_value};
 use ir_model::{Case, Op};
-use ir_parts::{ItemFault, behind_sign, int_width_of, is_signed_number, next, read_scalar_type};
+use ir_parts::{
+    ItemFault, behind_sign, int_width_of, is_signed_number, next, read_scalar_type, skip_metadata,
+};
 use sqlite_items::Items;
 use std::alloc::Global;
 
-/// An operand with its type, a target, and cases in brackets.
+/// An operand with its type, a target, cases in brackets, and attachments.
 #[tactic(auto, unfolding(crate::specs::Cases::switch_at), using(crate::proofs::Told::told))]
-pub fn read_switch(
+pub(crate) fn read_switch(
     alloc: Global,
     tokens: &Tokens<'_>,
     from: usize,
 ) -> Result<(Operation, usize), ItemFault>
     requires { from ≤ length tokens.now.tokens }
     ensures value { ReadsAs (λ x. (bare_operation x, mentions_at tokens.now (operation_sites x))) tokens.now result
-        (switch_at (left_from tokens.now from)) }
+        (attached switch_at (left_from tokens.now from)) }
     ensures forth { IfOk result (λ read. (from < read.1) × (read.1 ≤ length tokens.now.tokens)) }
 {
     let (typed, at) = read_typed(tokens, from)?;
@@ -35,6 +38,7 @@ pub fn read_switch(
     let at = behind_sign(tokens, at, b'[')?;
     let (cases, at) = read_cases(alloc, tokens, at)?;
     let at = behind_sign(tokens, at, b']')?;
+    let at = skip_metadata(alloc, tokens, at)?;
     let op = Op::Switch {
         kind: typed.kind,
         value: typed.value,
@@ -156,24 +160,20 @@ fn word_number(text: &[u8]) -> Option<i128>
     }
 }
 
-/// Nothing stands behind `unreachable`.
+/// Nothing but attachments.
 #[tactic(auto, unfolding(crate::specs::Cases::unreachable_at))]
-pub fn read_unreachable(
+pub(crate) fn read_unreachable(
     alloc: Global,
     tokens: &Tokens<'_>,
     from: usize,
 ) -> Result<(Operation, usize), ItemFault>
     requires { from ≤ length tokens.now.tokens }
     ensures value { ReadsAs (λ x. (bare_operation x, mentions_at tokens.now (operation_sites x))) tokens.now result
-        (unreachable_at (left_from tokens.now from)) }
+        (attached unreachable_at (left_from tokens.now from)) }
     ensures forth { IfOk result (λ read. (from ≤ read.1) × (read.1 ≤ length tokens.now.tokens)) }
 {
+    let at = skip_metadata(alloc, tokens, from)?;
+    let op = Op::Unreachable;
     let words = Items::new(alloc);
-    Ok((
-        Operation {
-            op: Op::Unreachable,
-            words,
-        },
-        from,
-    ))
+    Ok((Operation { op, words }, at))
 }

@@ -11,7 +11,7 @@ use ir_parts::starts_keyword;
 
 /// The flags of an operation of two operands.
 #[derive(Clone, Copy, Debug, PartialEq, Eq)]
-pub struct Flags {
+pub(crate) struct Flags {
     pub nuw: bool,
     pub nsw: bool,
     pub exact: bool,

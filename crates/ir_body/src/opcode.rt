@@ -11,7 +11,7 @@ use scev_base::Pred;
 
 /// What an operation begins with that is no call.
 #[derive(Clone, Copy, Debug, PartialEq, Eq)]
-pub enum Opcode {
+pub(crate) enum Opcode {
     Binary(BinOp),
     Icmp,
     Cast(CastOp),
@@ -39,7 +39,7 @@ pub fn starts_call(tokens: &Tokens<'_>, from: usize) -> bool
 
 /// The opcode that stands there. Behind a result one that gives none is refused.
 #[tactic(auto, unfolding(crate::specs::Opcodes::opcode_at))]
-pub fn read_opcode(
+pub(crate) fn read_opcode(
     tokens: &Tokens<'_>,
     from: usize,
     has_result: bool,

@@ -84,7 +84,10 @@ fn global(from: usize, text: &[u8]) -> Option<Operand>
 
 /// A block by its name.
 #[tactic(auto, unfolding(crate::specs::Operands::block_name_at))]
-pub fn read_block_name(tokens: &Tokens<'_>, from: usize) -> Result<(BlockId, usize), ItemFault>
+pub(crate) fn read_block_name(
+    tokens: &Tokens<'_>,
+    from: usize,
+) -> Result<(BlockId, usize), ItemFault>
     requires { from ≤ length tokens.now.tokens }
     ensures value { ReadsAs (λ id. (bare_block_name id, mentions_at tokens.now (block_name_sites id))) tokens.now
         result (block_name_at (left_from tokens.now from)) }
@@ -99,7 +102,10 @@ pub fn read_block_name(tokens: &Tokens<'_>, from: usize) -> Result<(BlockId, usi
 
 /// An operand with its type.
 #[tactic(auto, unfolding(crate::specs::Operands::typed_at), using(crate::proofs::Told::told))]
-pub fn read_typed(tokens: &Tokens<'_>, from: usize) -> Result<(TypedOperand, usize), ItemFault>
+pub(crate) fn read_typed(
+    tokens: &Tokens<'_>,
+    from: usize,
+) -> Result<(TypedOperand, usize), ItemFault>
     requires { from ≤ length tokens.now.tokens }
     ensures value { ReadsAs (λ typed. (bare_typed typed, mentions_at tokens.now (typed_sites typed))) tokens.now
         result (typed_at (left_from tokens.now from)) }
@@ -112,7 +118,7 @@ pub fn read_typed(tokens: &Tokens<'_>, from: usize) -> Result<(TypedOperand, usi
 
 /// An operand behind `ptr`.
 #[tactic(auto, unfolding(crate::specs::Operands::pointer_at), using(crate::proofs::Told::told))]
-pub fn read_pointer(tokens: &Tokens<'_>, from: usize) -> Result<(Operand, usize), ItemFault>
+pub(crate) fn read_pointer(tokens: &Tokens<'_>, from: usize) -> Result<(Operand, usize), ItemFault>
     requires { from ≤ length tokens.now.tokens }
     ensures value { ReadsAs (λ value. (bare_operand value, mentions_at tokens.now (operand_sites value))) tokens.now
         result (pointer_at (left_from tokens.now from)) }
@@ -124,7 +130,7 @@ pub fn read_pointer(tokens: &Tokens<'_>, from: usize) -> Result<(Operand, usize)
 
 /// A block behind `label`.
 #[tactic(auto, unfolding(crate::specs::Operands::target_at), using(crate::proofs::Told::told))]
-pub fn read_target(tokens: &Tokens<'_>, from: usize) -> Result<(BlockId, usize), ItemFault>
+pub(crate) fn read_target(tokens: &Tokens<'_>, from: usize) -> Result<(BlockId, usize), ItemFault>
     requires { from ≤ length tokens.now.tokens }
     ensures value { ReadsAs (λ id. (bare_block_name id, mentions_at tokens.now (block_name_sites id))) tokens.now
         result (target_at (left_from tokens.now from)) }
@@ -136,7 +142,7 @@ pub fn read_target(tokens: &Tokens<'_>, from: usize) -> Result<(BlockId, usize),
 
 /// Two operands of one type.
 #[derive(Drop)]
-pub struct Two {
+pub(crate) struct Two {
     pub kind: IrType,
     pub left: Operand,
     pub right: Operand,
@@ -144,7 +150,7 @@ pub struct Two {
 
 /// Two operands of one type.
 #[tactic(auto, unfolding(crate::specs::Operands::two_at), using(crate::proofs::Told::told))]
-pub fn read_two(tokens: &Tokens<'_>, from: usize) -> Result<(Two, usize), ItemFault>
+pub(crate) fn read_two(tokens: &Tokens<'_>, from: usize) -> Result<(Two, usize), ItemFault>
     requires { from ≤ length tokens.now.tokens }
     ensures value { ReadsAs (λ two. (bare_two two, mentions_at tokens.now (two_sites two))) tokens.now
         result (two_at (left_from tokens.now from)) }

@@ -20,12 +20,13 @@ use Rattle.ir_parts.proofs.NoneGoesOn.{refused_there}
 use Rattle.ir_parts.proofs.Combined.{pure_reads}
 use Rattle.ir_parts.proofs.SaidNames.{label_there, label_back}
 use Rattle.ir_body.specs.declared.operation.Operation.{Operation}
-use Rattle.ir_body.specs.Telling.{Telling, ◌⊗◌}
-use Rattle.ir_body.proofs.Tellers.{IsTeller, IsMade, told_as, both, made_told}
+use Rattle.ir_body.specs.Telling.{Telling, ◌⊗◌, made}
+use Rattle.ir_body.proofs.Tellers.{IsTeller, IsMade, told_as, told_reading, both, made_told}
 use Rattle.ir_functions.specs.declared.lines.Line.{Line}
-use Rattle.ir_functions.specs.Lines.{lines_at, instrs_of}
+use Rattle.ir_functions.specs.Lines.{lines_at, instrs_at, instrs_of}
 use Rattle.ir_functions.specs.Functions.{told_label, label_at, no_label_at, is_label, block_name_at, block_at}
-use Rattle.ir_functions.proofs.LineFacts.{ReadsPlain, ReadsCalls}
+use Rattle.ir_functions.proofs.LineFacts.{ReadsCalls}
+use Rattle.ir_functions.proofs.SameReadings.{made_same, made_made, then_made}
 use Rattle.ir_functions.proofs.LineTellers.{BeginsLine, line_begins}
 use Rattle.ir_functions.proofs.LinesTellers.{SpellsLines, LinesOf, lines_tell, lines_say, are_lines}
 
@@ -118,30 +119,30 @@ pub record BeginsBlock (ts : List Lexeme) : Type 0 where
   pub no_end : is_punctuation 125 first ≡ false
 
 module _ {Chain : Bool → Option Operation × Option Ending → List Mention → List Lexeme → Type 0}
-    (op_at : Bool → Telling Operation) (plain : ReadsPlain op_at) (calls : ReadsCalls Chain) where
+    (calls : ReadsCalls Chain) where
   abbrev NoCommaBehind : BlockId × List Line → Lexeme → Type 0
   NoCommaBehind p t = is_punctuation 44 t ≡ false
 
   abbrev SpellsLabelled : BlockId × List Line → Mentioning
-  SpellsLabelled p = SpellsLabel p.0 ⊙ SpellsLines op_at plain calls p.1
+  SpellsLabelled p = SpellsLabel p.0 ⊙ SpellsLines calls p.1
 
   abbrev SpellsUnlabelled : BlockId × List Line → Mentioning
-  SpellsUnlabelled p = NoLabel p.0 ⊙ SpellsLines op_at plain calls p.1
+  SpellsUnlabelled p = NoLabel p.0 ⊙ SpellsLines calls p.1
 
-  labelled_tells : IsTeller (label_at ⊗ lines_at op_at) SpellsLabelled NoCommaBehind
-  labelled_tells = both label_tells (lines_tell op_at plain calls)
+  labelled_tells : IsTeller (label_at ⊗ lines_at) SpellsLabelled NoCommaBehind
+  labelled_tells = both label_tells (lines_tell calls)
 
-  unlabelled_tells : IsTeller (no_label_at ⊗ lines_at op_at) SpellsUnlabelled NoCommaBehind
-  unlabelled_tells = both no_label_tells (lines_tell op_at plain calls)
+  unlabelled_tells : IsTeller (no_label_at ⊗ lines_at) SpellsUnlabelled NoCommaBehind
+  unlabelled_tells = both no_label_tells (lines_tell calls)
 
   -- what lines begin with
-  lines_begin : (lines : List Line) (ms : List Mention) (ts : List Lexeme) → SpellsLines op_at plain calls lines ms ts
+  lines_begin : (lines : List Line) (ms : List Mention) (ts : List Lexeme) → SpellsLines calls lines ms ts
       → BeginsLine ts
   lines_begin [] ms ts l = absurd l
-  lines_begin (line ∷ []) ms ts l = line_begins op_at plain calls line ms ts l.1
+  lines_begin (line ∷ []) ms ts l = line_begins calls line ms ts l.1
   lines_begin (line ∷ next ∷ more) ms ts l =
       let m = l.1 in
-      let b = line_begins op_at plain calls line m.0 m.3.0 m.3.3 in
+      let b = line_begins calls line m.0 m.3.0 m.3.3 in
       record {
         first = b.first;
         others = b.others ++ m.3.1;
@@ -183,7 +184,7 @@ module _ {Chain : Bool → Option Operation × Option Ending → List Mention �
       ap (λ (ts : List Lexeme). begins is_label (ts ++ rest)) b.parts ∙ b.ends.no_label
 
   label_begun : (t : Lexeme) (ts : List Lexeme) → is_label t ≡ true
-      → (label_at ⊗ lines_at op_at) (t ∷ ts) ≡ Err (suc (length ts)) → ⊥
+      → (label_at ⊗ lines_at) (t ∷ ts) ≡ Err (suc (length ts)) → ⊥
   label_begun t ts passed e = refused_there labelled_tells.reader [] ts t e (record {
     whole = ((id, sample.some.0), DefinesBlock (Some name.0) ∷ sample.some.1);
     others = sample.sentence;
@@ -201,20 +202,20 @@ module _ {Chain : Bool → Option Operation × Option Ending → List Mention �
       id : BlockId
       id = record { 0 = 0 }
 
-      sample : IsReader (lines_at op_at)
-          (λ (told : List Line × List Mention) ts. SpellsLines op_at plain calls told.0 told.1 ts)
+      sample : IsReader lines_at
+          (λ (told : List Line × List Mention) ts. SpellsLines calls told.0 told.1 ts)
           (λ told t. is_punctuation 44 t ≡ false)
-      sample = (lines_tell op_at plain calls).reader
+      sample = (lines_tell calls).reader
 
   -- a block, by its lines
   abbrev SpellsByLines : BlockId × List Line → Mentioning
   SpellsByLines p ms ts = SpellsLabelled p ms ts ⊎ SpellsUnlabelled p ms ts
 
-  by_lines : IsTeller (block_name_at ⊗ lines_at op_at) SpellsByLines NoCommaBehind
+  by_lines : IsTeller (block_name_at ⊗ lines_at) SpellsByLines NoCommaBehind
   unfolding block_name_at
   by_lines = record {
-    reader = of_reading (block_name_at ⊗ lines_at op_at)
-        (λ ts. choice_first is_label label_at no_label_at (lines_at op_at) ts)
+    reader = of_reading (block_name_at ⊗ lines_at)
+        (λ ts. choice_first is_label label_at no_label_at lines_at ts)
         (chosen is_label labelled_tells.reader unlabelled_tells.reader
         (λ told ts l. starts_label told.0 told.1 ts l)
         (λ told taken rest l stops. starts_no_label told.0 told.1 taken rest l)
@@ -230,19 +231,19 @@ module _ {Chain : Bool → Option Operation × Option Ending → List Mention �
     l.0,
     l.1,
     l.2,
-    (l.3.0, l.3.1, l.3.2, (l.3.3.0, inl l.3.3.1), lines_say op_at plain calls p.1 l.1 l.3.1 l.3.4),
+    (l.3.0, l.3.1, l.3.2, (l.3.3.0, inl l.3.3.1), lines_say calls p.1 l.1 l.3.1 l.3.4),
   )
   block_there p ms ts (inr l) = (
     l.0,
     l.1,
     l.2,
-    (l.3.0, l.3.1, l.3.2, (l.3.3.0, inr l.3.3.1), lines_say op_at plain calls p.1 l.1 l.3.1 l.3.4),
+    (l.3.0, l.3.1, l.3.2, (l.3.3.0, inr l.3.3.1), lines_say calls p.1 l.1 l.3.1 l.3.4),
   )
 
   block_back : (block : Block) (ms : List Mention) (ts : List Lexeme) → SpellsBlock block ms ts
       → IsMade block_of SpellsByLines block ms ts
   block_back block ms ts (before, behind, whole, (us, vs, parts, (id, named), l)) =
-      let m = are_lines op_at plain calls block.instrs behind vs l in (
+      let m = are_lines calls block.instrs behind vs l in (
         (block.id, m.lines),
         ap (λ (instrs : List Instr). let block : Block = record { id = block.id; instrs = instrs } in block)
             (sym m.same),
@@ -250,16 +251,29 @@ module _ {Chain : Bool → Option Operation × Option Ending → List Mention �
       )
     where
       of_name : defines_block before us ⊎ unwritten (DefinesBlock None) before us
-          → (m : LinesOf op_at plain calls block.instrs behind vs) → SpellsByLines (block.id, m.lines) ms ts
+          → (m : LinesOf calls block.instrs behind vs) → SpellsByLines (block.id, m.lines) ms ts
       of_name (inl said) m = inl (before, behind, whole, (us, vs, parts, (id, said), m.spelled))
       of_name (inr none) m = inr (before, behind, whole, (us, vs, parts, (id, none), m.spelled))
 
-  pub block_tells : IsTeller (block_at op_at) SpellsBlock (λ block t. is_punctuation 44 t ≡ false)
-  unfolding block_at
-  block_tells = told_as SpellsBlock
+  abbrev named_block : BlockId × List Instr → Block
+  named_block p = record { id = p.0; instrs = p.1 }
+
+  abbrev with_instrs : BlockId × List Line → BlockId × List Instr
+  with_instrs p = (p.0, instrs_of p.1)
+
+  same_block : (ts : List Lexeme) → block_at ts ≡ made block_of (block_name_at ⊗ lines_at) ts
+  unfolding block_at instrs_at
+  same_block ts =
+      made_same named_block (block_name_at ⊗ instrs_at) (made with_instrs (block_name_at ⊗ lines_at))
+      (then_made instrs_of block_name_at lines_at) ts
+      ∙ made_made named_block with_instrs (block_name_at ⊗ lines_at) ts
+
+  pub block_tells : IsTeller block_at SpellsBlock (λ block t. is_punctuation 44 t ≡ false)
+  block_tells = told_reading block_at same_block
+      (told_as SpellsBlock
       (λ block ms ts l. subst (λ (block : Block). SpellsBlock block ms ts) (sym l.1) (block_there l.0 ms ts l.2))
       block_back
-      (made_told block_of (λ t. is_punctuation 44 t ≡ false) by_lines)
+      (made_told block_of (λ t. is_punctuation 44 t ≡ false) by_lines))
 
   -- ---- what blocks begin with
 

@@ -20,6 +20,7 @@ use Rattle.ir_functions.specs.declared.arguments.Argument.{Argument}
 use Rattle.ir_functions.specs.declared.calls.CallHead.{CallHead}
 use Rattle.ir_functions.specs.declared.calls.Callee.{Callee}
 use Rattle.ir_functions.specs.declared.calls.Callee.TheVariants.{Dropped, Named}
+use Rattle.ir_functions.specs.Arguments.{arguments_of}
 use Rattle.ir_functions.specs.Calls.{tail_of, call_of}
 use Rattle.ir_functions.proofs.LineStarts.{IsCall}
 use Rattle.ir_functions.proofs.LineFacts.{SpellsWhole}
@@ -206,7 +207,7 @@ same_typed (arg ∷ args) = ap (λ (typed : List TypedOperand). arg.typed ∷ ty
 
 named_call : (has_result : Bool) (head : CallHead) (name : List ℕ) (p : List Argument × Behind)
     (ms : List Mention) (ts : List Lexeme) → (silent (SpellsHead head) ⊙ WithNamed has_result head name p) ms ts
-    → SpellsWhole (call_of head name p.0 p.1.0.1) ms ts
+    → SpellsWhole (call_of head name (arguments_of p.0) p.1.0.1) ms ts
 named_call has_result head name p ms ts l =
     let args = map plain_argument p.0 in
     let callee = called has_result head name p ms ts l in
@@ -245,7 +246,8 @@ call_there has_result operation tail ms ts l =
     of_callee head (Named name) l =
         let inner = l.3.4 in
         let b = inner.3.4 in
-        let same = same_operation operation (call_of head name b.0.0 b.0.1.0.1) (ap (λ (read : Read). read.0) b.1) in
+        let same = same_operation operation (call_of head name (arguments_of b.0.0) b.0.1.0.1)
+        (ap (λ (read : Read). read.0) b.1) in
         subst (λ (operation : Operation). IsCall operation.op × SpellsWhole operation ms ts) (sym same) (
           tt,
           named_call has_result head name b.0 ms ts (
@@ -333,7 +335,8 @@ same_call : (head : CallHead) (name : List ℕ) (args : List TypedOperand) (word
     → words ≡ texts_of head (map (λ (arg : grammar.Argument). arg.words) arguments) after
     → args ≡ map (λ (arg : grammar.Argument). arg.typed) arguments
     → map plain_argument found ≡ arguments → said ≡ after
-    → ◌≡◌ {A = Operation} (record { op = Call head.ret name args; words = words }) (call_of head name found said)
+    → ◌≡◌ {A = Operation} (record { op = Call head.ret name args; words = words })
+    (call_of head name (arguments_of found) said)
 same_call head name args words arguments after found said words_are args_are same_args same_after =
     let typed : args ≡ map (λ (arg : Argument). arg.typed) found =
     args_are ∙ (ap (λ (gs : List grammar.Argument). map (λ (arg : grammar.Argument). arg.typed) gs) (sym same_args)

@@ -10,6 +10,7 @@ use Rattle.ir_grammar.specs.Operations.{the_sign}
 use Rattle.ir_parts.specs.declared.ending.Ending.{Ending}
 use Rattle.ir_parts.specs.declared.ending.Run.{Run}
 use Rattle.ir_parts.specs.Reading.{one_at}
+use Rattle.ir_parts.specs.WordsReading.{parentheses_at}
 use Rattle.ir_parts.specs.Runs.{SpellsRunText}
 use Rattle.ir_parts.proofs.Readers.{StopsAt, IsReader, of_stop, stops_at_all}
 use Rattle.ir_parts.proofs.Combined.{behind_token}
@@ -19,14 +20,18 @@ use Rattle.ir_parts.proofs.TakingReader.{taking_reads}
 use Rattle.ir_parts.proofs.WordsReader.{StopsWords, words_read}
 use Rattle.ir_parts.proofs.RunEnds.{ends_each}
 use Rattle.ir_body.specs.declared.operation.Operation.{Operation}
-use Rattle.ir_body.specs.Telling.{◌>>=◌, silently}
-use Rattle.ir_body.proofs.Tellers.{IsTeller, silent_tells, each_tells, made_tells, skip, both, sign_tells}
+use Rattle.ir_parts.specs.Reading as reading
+use Rattle.ir_body.specs.Telling.{Telling, ◌>>=◌, ◌⊗◌, ◌▷◌, made, silently, sign_at}
+use Rattle.ir_body.proofs.Tellers.{IsTeller, silent_tells, told_reading, each_tells, made_tells, skip, both, sign_tells}
+use Rattle.ir_functions.proofs.SameReadings.{skip_same, first_same, both_same, made_same, silently_skip, silently_made, made_made, skip_made, first_made, then_made, listed_same}
 use Rattle.ir_functions.specs.declared.arguments.Argument.{Argument}
+use Rattle.ir_functions.specs.declared.argument_list.Arguments.{Arguments}
 use Rattle.ir_functions.specs.declared.calls.CallHead.{CallHead}
 use Rattle.ir_functions.specs.declared.calls.Callee.{Callee}
 use Rattle.ir_functions.specs.declared.calls.Callee.TheVariants.{Dropped, Named}
-use Rattle.ir_functions.specs.Silent.{trailing_at, dropped_call_at}
-use Rattle.ir_functions.specs.Calls.{callee_of, tail_of, dropped_at, call_of, called_at, behind_callee_at, call_at}
+use Rattle.ir_functions.specs.Arguments.{argument_at, arguments_at, arguments_of, some_given_at, given_at}
+use Rattle.ir_functions.specs.Silent.{trailing_at}
+use Rattle.ir_functions.specs.Calls.{callee_of, tail_of, ended_at, dropped_at, call_of, called_at, behind_callee_at, call_at}
 use Rattle.ir_functions.proofs.LineFacts.{StopsTail}
 use Rattle.ir_functions.proofs.ArgumentLists.{SpellsArguments, arguments_tell}
 use Rattle.ir_functions.proofs.CalleeReaders.{IsRead, callee_reads}
@@ -107,20 +112,90 @@ abbrev pub make_dropped : Behind → Read
 make_dropped p = (None, tail_of p)
 
 abbrev pub make_call : CallHead → List ℕ → List Argument × Behind → Read
-make_call head name p = (Some (call_of head name p.0 p.1.0.1), tail_of p.1)
+make_call head name p = (Some (call_of head name (arguments_of p.0) p.1.0.1), tail_of p.1)
 
 abbrev pub SpellsBehindCallee : CallHead → Callee → Read → Mentioning
 SpellsBehindCallee head Dropped read ms ts = (p : Behind) × (read ≡ make_dropped p) × silent (DroppedParts p) ms ts
 SpellsBehindCallee head (Named name) read ms ts = (p : List Argument × Behind) × (read ≡ make_call head name p)
     × CalledParts p ms ts
 
+-- the same, of all that is read
+dropped_parts_at : Telling Read
+dropped_parts_at = made make_dropped (silently (reading.◌▷◌ parentheses_at trailing_at))
+
+called_parts_at : CallHead → List ℕ → Telling Read
+called_parts_at head name = made (make_call head name) (sign_at 40 ▷ (arguments_at ⊗ silently trailing_at))
+
+abbrev text_and_end : Behind → List ℕ × Option Ending
+text_and_end p = (p.0.1, tail_of p)
+
+abbrev given_and_end : List Argument × Behind → Arguments × (List ℕ × Option Ending)
+given_and_end p = (arguments_of p.0, text_and_end p.1)
+
+same_ended : (ts : List Lexeme) → silently ended_at ts ≡ made text_and_end (silently trailing_at) ts
+unfolding ended_at
+same_ended ts = silently_made text_and_end trailing_at ts
+
+dropped_same : (ts : List Lexeme) → dropped_at ts ≡ dropped_parts_at ts
+unfolding dropped_at dropped_parts_at
+dropped_same ts =
+    made_same no_call (silently parentheses_at ▷ silently ended_at)
+    (made text_and_end (silently parentheses_at ▷ silently trailing_at))
+    (λ ts. skip_same (silently parentheses_at) (silently ended_at) (made text_and_end (silently trailing_at))
+    same_ended ts
+    ∙ skip_made (silently parentheses_at) text_and_end (silently trailing_at) ts) ts
+    ∙ (made_made no_call text_and_end (silently parentheses_at ▷ silently trailing_at) ts
+    ∙ sym (made_same make_dropped (silently (reading.◌▷◌ parentheses_at trailing_at))
+    (silently parentheses_at ▷ silently trailing_at) (silently_skip parentheses_at trailing_at) ts))
+  where
+    no_call : List ℕ × Option Ending → Read
+    no_call t = (None, t.1)
+
+same_given : (ts : List Lexeme) → given_at ts ≡ made arguments_of arguments_at ts
+unfolding given_at some_given_at arguments_at
+same_given ts = listed_same arguments_of argument_at 41 ts
+
+parts_same : (ts : List Lexeme) → (given_at ⊗ silently ended_at) ts
+    ≡ made given_and_end (arguments_at ⊗ silently trailing_at) ts
+parts_same ts =
+    first_same given_at (made arguments_of arguments_at) (silently ended_at) same_given ts
+    ∙ (first_made arguments_of arguments_at (silently ended_at) ts
+    ∙ (made_same with_arguments (arguments_at ⊗ silently ended_at) (made with_end (arguments_at ⊗ silently trailing_at))
+    (λ ts. both_same arguments_at (silently ended_at) (made text_and_end (silently trailing_at)) same_ended ts
+    ∙ then_made text_and_end arguments_at (silently trailing_at) ts) ts
+    ∙ made_made with_arguments with_end (arguments_at ⊗ silently trailing_at) ts))
+  where
+    with_arguments : List Argument × (List ℕ × Option Ending) → Arguments × (List ℕ × Option Ending)
+    with_arguments p = (arguments_of p.0, p.1)
+
+    with_end : List Argument × Behind → List Argument × (List ℕ × Option Ending)
+    with_end p = (p.0, text_and_end p.1)
+
+called_same : (head : CallHead) (name : List ℕ) (ts : List Lexeme) → called_at head name ts
+    ≡ called_parts_at head name ts
+unfolding called_at called_parts_at
+called_same head name ts =
+    made_same call (sign_at 40 ▷ (given_at ⊗ silently ended_at))
+    (made given_and_end (sign_at 40 ▷ (arguments_at ⊗ silently trailing_at)))
+    (λ ts. skip_same (sign_at 40) (given_at ⊗ silently ended_at)
+    (made given_and_end (arguments_at ⊗ silently trailing_at)) parts_same ts
+    ∙ skip_made (sign_at 40) given_and_end (arguments_at ⊗ silently trailing_at) ts) ts
+    ∙ made_made call given_and_end (sign_at 40 ▷ (arguments_at ⊗ silently trailing_at)) ts
+  where
+    call : Arguments × (List ℕ × Option Ending) → Read
+    call p = (Some (call_of head name p.0 p.1.0), p.1.1)
+
 behind_callee_tells : (head : CallHead) (callee : Callee)
     → IsTeller (behind_callee_at head callee) (SpellsBehindCallee head callee) (λ read. StopsTail read.1)
-unfolding dropped_at called_at dropped_call_at
-behind_callee_tells head Dropped = made_tells make_dropped (λ read. StopsTail read.1) (λ p t stop. stop)
-    (λ p t stop. stop) (silent_tells (behind_token parentheses_read trailing_reads))
-behind_callee_tells head (Named name) = made_tells (make_call head name) (λ read. StopsTail read.1)
-    (λ p t stop. stop) (λ p t stop. stop) (skip (sign_tells 40) (both arguments_tell (silent_tells trailing_reads)))
+unfolding dropped_parts_at called_parts_at
+behind_callee_tells head Dropped =
+    told_reading dropped_at dropped_same
+    (made_tells make_dropped (λ read. StopsTail read.1) (λ p t stop. stop) (λ p t stop. stop)
+    (silent_tells (behind_token parentheses_read trailing_reads)))
+behind_callee_tells head (Named name) =
+    told_reading (called_at head name) (called_same head name)
+    (made_tells (make_call head name) (λ read. StopsTail read.1) (λ p t stop. stop) (λ p t stop. stop)
+    (skip (sign_tells 40) (both arguments_tell (silent_tells trailing_reads))))
 
 -- ---- calls
 

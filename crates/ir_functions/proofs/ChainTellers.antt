@@ -17,14 +17,14 @@ use Rattle.ir_parts.specs.Reading.{begins}
 use Rattle.ir_parts.proofs.Readers.{chosen}
 use Rattle.ir_parts.proofs.NoneGoesOn.{Begins, refused_there}
 use Rattle.ir_body.specs.declared.operation.Operation.{Operation}
-use Rattle.ir_body.specs.Telling.{Telling, made}
 use Rattle.ir_body.specs.Opcodes.{begins_call}
 use Rattle.ir_body.proofs.Tellers.{IsTeller, made_tells}
+use Rattle.ir_body.proofs.OpTellers.{op_tells}
 use Rattle.ir_functions.specs.Silent.{is_record}
 use Rattle.ir_functions.specs.Calls.{call_at}
-use Rattle.ir_functions.specs.Lines.{is_local, operation_at}
+use Rattle.ir_functions.specs.Lines.{is_local, plain_at, operation_at}
 use Rattle.ir_functions.proofs.LineStarts.{EndsLines, BeginsOp, op_begins, call_words, call_ends, call_no_record, call_no_local, word_ends, word_no_record, word_no_local}
-use Rattle.ir_functions.proofs.LineFacts.{StopsTail, SpellsWhole, PlainOperation, ReadsPlain, ReadsCalls}
+use Rattle.ir_functions.proofs.LineFacts.{StopsTail, SpellsWhole, PlainOperation, ReadsCalls}
 
 -- ---- what stands first
 
@@ -189,7 +189,7 @@ sample_spelled before l = (
 -- ---- the reading
 
 module _ {Chain : Bool → Option Operation × Option Ending → List Mention → List Lexeme → Type 0}
-    (op_at : Bool → Telling Operation) (plain : ReadsPlain op_at) (calls : ReadsCalls Chain) where
+    (calls : ReadsCalls Chain) where
   -- an operation other than a call, behind which no run stands
   abbrev SpellsPlain : Bool → Option Operation × Option Ending → Mentioning
   SpellsPlain has_result p ms ts = (operation : Operation) × (p ≡ (Some operation, None))
@@ -239,11 +239,10 @@ module _ {Chain : Bool → Option Operation × Option Ending → List Mention �
   abbrev pub SpellsChain : Bool → Option Operation × Option Ending → Mentioning
   SpellsChain has_result p ms ts = Chain has_result p ms ts ⊎ SpellsPlain has_result p ms ts
 
-  plain_tells : (has_result : Bool)
-      → IsTeller (made (λ operation. (Some operation, None)) (op_at has_result)) (SpellsPlain has_result)
-      (λ p. StopsTail p.1)
+  plain_tells : (has_result : Bool) → IsTeller (plain_at has_result) (SpellsPlain has_result) (λ p. StopsTail p.1)
+  unfolding plain_at
   plain_tells has_result = made_tells (λ operation. (Some operation, None)) (λ p. StopsTail p.1)
-      (λ operation t stop. (stop, tt)) (λ operation t stop. stop.0) (plain has_result)
+      (λ operation t stop. (stop, tt)) (λ operation t stop. stop.0) (op_tells has_result)
 
   no_call : (has_result : Bool) (p : Option Operation × Option Ending) (ms : List Mention) (taken rest : List Lexeme)
       → SpellsPlain has_result p ms taken → begins begins_call (taken ++ rest) ≡ false
@@ -252,7 +251,7 @@ module _ {Chain : Bool → Option Operation × Option Ending → List Mention �
       ap (λ (ts : List Lexeme). begins begins_call (ts ++ rest)) b.parts ∙ b.is.no_call
 
   pub operation_tells : (has_result : Bool)
-      → IsTeller (operation_at op_at has_result) (SpellsChain has_result) (λ p. StopsTail p.1)
+      → IsTeller (operation_at has_result) (SpellsChain has_result) (λ p. StopsTail p.1)
   unfolding operation_at
   operation_tells has_result = record {
     reader = chosen begins_call (calls.tells has_result).reader (plain_tells has_result).reader

@@ -35,7 +35,7 @@ use Rattle.ir_body.specs.Gathered.{gathered}
 use Rattle.ir_body.proofs.Tellers.{IsTeller, Follows, silent_tells, told_as, each_tells, made_tells, skip, both, both_told, word_tells, sign_tells}
 use Rattle.ir_body.proofs.GatheredTellers.{Told, gathered_tells, in_order, from_order}
 use Rattle.ir_functions.specs.Functions.{block_at, blocks_at, signature_at, opening_at}
-use Rattle.ir_functions.proofs.LineFacts.{ReadsPlain, ReadsCalls}
+use Rattle.ir_functions.proofs.LineFacts.{ReadsCalls}
 use Rattle.ir_functions.proofs.BlockTellers.{block_tells, block_begins}
 
 -- ---- before the parameters
@@ -141,29 +141,29 @@ blocks_back blocks ms ts l =
     )
 
 module _ {Chain : Bool → Option Operation × Option Ending → List Mention → List Lexeme → Type 0}
-    (op_at : Bool → Telling Operation) (plain : ReadsPlain op_at) (calls : ReadsCalls Chain) where
+    (calls : ReadsCalls Chain) where
   abbrev NoCommaBehind : Lexeme → Type 0
   NoCommaBehind t = is_punctuation 44 t ≡ false
 
   some_tokens : (block : Block) (ms : List Mention) → SpellsBlock block ms [] → ⊥
-  some_tokens block ms l = let b = block_begins op_at plain calls block ms [] l in let e = b.parts in cc
+  some_tokens block ms l = let b = block_begins calls block ms [] l in let e = b.parts in cc
 
   no_closing : (block : Block) (ms : List Mention) (ts rest : List Lexeme) → SpellsBlock block ms ts
       → begins (is_punctuation 125) (ts ++ rest) ≡ false
   no_closing block ms ts rest l =
-      let b = block_begins op_at plain calls block ms ts l in
+      let b = block_begins calls block ms ts l in
       ap (λ (ts : List Lexeme). begins (is_punctuation 125) (ts ++ rest)) b.parts ∙ b.no_end
 
   next_ends : (block : Block) (ms : List Mention) (ts rest : List Lexeme) → SpellsBlock block ms ts
       → StopsAt NoCommaBehind (ts ++ rest)
   next_ends block ms ts rest l =
-      let b = block_begins op_at plain calls block ms ts l in
+      let b = block_begins calls block ms ts l in
       subst (λ (ts : List Lexeme). StopsAt NoCommaBehind (ts ++ rest)) (sym b.parts) b.no_comma
 
-  blocks_tell : IsTeller (blocks_at op_at) SpellsBlocks Anything
+  blocks_tell : IsTeller blocks_at SpellsBlocks Anything
   unfolding blocks_at
   blocks_tell = gathered_tells SpellsBlocks blocks_there blocks_back
-      (up_to_reads 125 (λ told t. NoCommaBehind t) (block_tells op_at plain calls).reader
+      (up_to_reads 125 (λ told t. NoCommaBehind t) (block_tells calls).reader
       (λ told l. some_tokens told.0 told.1 l)
       (λ told ts rest l. no_closing told.0 told.1 ts rest l)
       (λ told next ts rest l. next_ends next.0 next.1 ts rest l)
@@ -183,6 +183,6 @@ module _ {Chain : Bool → Option Operation × Option Ending → List Mention �
       ∙ append_assoc first.3.0 (first.3.1 ++ l.3.1) rest))
       (next_ends block first.0 first.3.0 ((first.3.1 ++ l.3.1) ++ rest) first.3.3)
 
-  pub body_tells : IsTeller (block_at op_at ⊗ blocks_at op_at) SpellsBody Anything
-  body_tells = both_told (block_tells op_at plain calls) blocks_tell
+  pub body_tells : IsTeller (block_at ⊗ blocks_at) SpellsBody Anything
+  body_tells = both_told (block_tells calls) blocks_tell
       (λ block blocks ms taken rest l stops. blocks_begin blocks ms taken rest l)

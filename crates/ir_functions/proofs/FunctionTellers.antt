@@ -18,11 +18,12 @@ use Rattle.ir_parts.specs.Runs.{SpellsRunText}
 use Rattle.ir_parts.proofs.Readers.{Anything}
 use Rattle.ir_parts.proofs.WordsReader.{text_of_words, words_of_text}
 use Rattle.ir_body.specs.declared.operation.Operation.{Operation}
-use Rattle.ir_body.specs.Telling.{Telling, ◌⊗◌, ◌▷◌, sign_at}
-use Rattle.ir_body.proofs.Tellers.{IsTeller, IsMade, told_as, made_told, skip, both, then_as, sign_tells}
-use Rattle.ir_functions.specs.Functions.{params_of, params_at, signature_at, opening_at, block_at, blocks_at, function_of, function_at}
+use Rattle.ir_body.specs.Telling.{Telling, ◌⊗◌, ◌▷◌, made, sign_at}
+use Rattle.ir_body.proofs.Tellers.{IsTeller, IsMade, told_as, told_reading, made_told, skip, both, then_as, sign_tells}
+use Rattle.ir_functions.specs.Functions.{param_at, params_of, params_at, some_params_at, taken_params_at, signature_at, opening_at, block_at, blocks_at, body_at, function_of, function_at}
 use Rattle.ir_functions.proofs.Regrouped.{left_told, right_told, left_three, right_three, left_four, right_four, found_first, found_then}
-use Rattle.ir_functions.proofs.LineFacts.{ReadsPlain, ReadsCalls}
+use Rattle.ir_functions.proofs.LineFacts.{ReadsCalls}
+use Rattle.ir_functions.proofs.SameReadings.{skip_same, first_same, both_same, made_same, made_made, skip_made, first_made, then_made, listed_same}
 use Rattle.ir_functions.proofs.ListingTellers.{SpellsListed, listing_seen, listing_found}
 use Rattle.ir_functions.proofs.ParamTellers.{SpellsReadParam, param_seen, param_found, params_tell}
 use Rattle.ir_functions.proofs.FunctionParts.{SpellsSignature, SpellsOpening, SpellsBody, signature_tells, opening_tells, body_tells}
@@ -245,17 +246,20 @@ of_parts f words params blocks w p b v l =
     ∙ (ap (λ values. record f { words = words; params = params; blocks = blocks; values = values }) v
     ∙ ap (λ labels. record f { words = words; params = params; blocks = blocks; values = []; labels = labels }) l)))
 
+abbrev make_function : FunctionParts → Function
+make_function p = function_of (p.0, (params_of p.1.0, (p.1.1.0, p.1.1.1.0 ∷ p.1.1.1.1)))
+
 function_there : (p : FunctionParts) (ms : List Mention) (ts : List Lexeme) → SpellsParts p ms ts
-    → SpellsFunction (function_of p) ms ts
+    → SpellsFunction (make_function p) ms ts
 function_there p ms ts l =
     (p.0.0.1, p.1.1.0.1, refl, λ e. absurd cc, refl, refl, row_said p ms ts (in_a_row p ms ts l))
 
 function_back : (f : Function) (ms : List Mention) (ts : List Lexeme) → SpellsFunction f ms ts
-    → IsMade function_of SpellsParts f ms ts
+    → IsMade make_function SpellsParts f ms ts
 function_back f ms ts (before, after, words, some, no_values, no_labels, l) = of_blocks f.blocks refl l
   where
     of_blocks : (blocks : List Block) → f.blocks ≡ blocks → Spelled before f.params after f.ret f.name blocks ms ts
-        → IsMade function_of SpellsParts f ms ts
+        → IsMade make_function SpellsParts f ms ts
     of_blocks [] is l = absurd (some is)
     of_blocks (block ∷ blocks) is l =
         let found = row_found before f.params after f.ret f.name (block ∷ blocks) ms ts l in
@@ -272,18 +276,81 @@ function_back f ms ts (before, after, words, some, no_values, no_labels, l) = of
           of_row p ms ts found.1,
         )
 
+-- ---- the reading, of all that is read
+
+abbrev BodyParts : Type 0
+BodyParts = Words × (Block × List Block)
+
+behind_params_at : Telling BodyParts
+behind_params_at = opening_at ⊗ (block_at ⊗ blocks_at)
+
+parts_at : Telling FunctionParts
+parts_at = signature_at ⊗ (sign_at 40 ▷ (params_at ⊗ behind_params_at))
+
+abbrev made_behind : BodyParts → Words × List Block
+made_behind p = (p.0, p.1.0 ∷ p.1.1)
+
+abbrev made_params : ReadParams × BodyParts → List Param × (Words × List Block)
+made_params p = (params_of p.0, made_behind p.1)
+
+same_behind : (ts : List Lexeme) → (opening_at ⊗ body_at) ts ≡ made made_behind behind_params_at ts
+unfolding body_at behind_params_at
+same_behind ts = then_made joined opening_at (block_at ⊗ blocks_at) ts
+  where
+    joined : Block × List Block → List Block
+    joined p = p.0 ∷ p.1
+
+same_listed : (ts : List Lexeme) → taken_params_at ts ≡ made params_of params_at ts
+unfolding taken_params_at some_params_at params_at
+same_listed ts = listed_same params_of param_at 41 ts
+
+same_params : (ts : List Lexeme) → (taken_params_at ⊗ (opening_at ⊗ body_at)) ts
+    ≡ made made_params (params_at ⊗ behind_params_at) ts
+same_params ts =
+    first_same taken_params_at (made params_of params_at) (opening_at ⊗ body_at) same_listed ts
+    ∙ (first_made params_of params_at (opening_at ⊗ body_at) ts
+    ∙ (made_same with_params (params_at ⊗ (opening_at ⊗ body_at)) (made with_blocks (params_at ⊗ behind_params_at))
+    (λ ts. both_same params_at (opening_at ⊗ body_at) (made made_behind behind_params_at) same_behind ts
+    ∙ then_made made_behind params_at behind_params_at ts) ts
+    ∙ made_made with_params with_blocks (params_at ⊗ behind_params_at) ts))
+  where
+    with_params : ReadParams × (Words × List Block) → List Param × (Words × List Block)
+    with_params p = (params_of p.0, p.1)
+
+    with_blocks : ReadParams × BodyParts → ReadParams × (Words × List Block)
+    with_blocks p = (p.0, made_behind p.1)
+
+abbrev with_parts : FunctionParts → (Words × (IrType × List ℕ)) × (List Param × (Words × List Block))
+with_parts p = (p.0, made_params p.1)
+
+same_signed : (ts : List Lexeme) → (sign_at 40 ▷ (taken_params_at ⊗ (opening_at ⊗ body_at))) ts
+    ≡ made made_params (sign_at 40 ▷ (params_at ⊗ behind_params_at)) ts
+same_signed ts =
+    skip_same (sign_at 40) (taken_params_at ⊗ (opening_at ⊗ body_at))
+    (made made_params (params_at ⊗ behind_params_at)) same_params ts
+    ∙ skip_made (sign_at 40) made_params (params_at ⊗ behind_params_at) ts
+
+same_function : (ts : List Lexeme) → function_at ts ≡ made make_function parts_at ts
+unfolding function_at parts_at
+same_function ts =
+    made_same function_of (signature_at ⊗ (sign_at 40 ▷ (taken_params_at ⊗ (opening_at ⊗ body_at))))
+    (made with_parts (signature_at ⊗ (sign_at 40 ▷ (params_at ⊗ behind_params_at))))
+    (λ ts. both_same signature_at (sign_at 40 ▷ (taken_params_at ⊗ (opening_at ⊗ body_at)))
+    (made made_params (sign_at 40 ▷ (params_at ⊗ behind_params_at))) same_signed ts
+    ∙ then_made made_params signature_at (sign_at 40 ▷ (params_at ⊗ behind_params_at)) ts) ts
+    ∙ made_made function_of with_parts (signature_at ⊗ (sign_at 40 ▷ (params_at ⊗ behind_params_at))) ts
+
 module _ {Chain : Bool → Option Operation × Option Ending → List Mention → List Lexeme → Type 0}
-    (op_at : Bool → Telling Operation) (plain : ReadsPlain op_at) (calls : ReadsCalls Chain) where
-  parts_tell : IsTeller
-      (signature_at ⊗ (sign_at 40 ▷ (params_at ⊗ (opening_at ⊗ (block_at op_at ⊗ blocks_at op_at))))) SpellsParts
-      Anything
+    (calls : ReadsCalls Chain) where
+  parts_tell : IsTeller parts_at SpellsParts Anything
+  unfolding parts_at behind_params_at
   parts_tell = both signature_tells (skip (sign_tells 40) (both params_tell (both opening_tells
-      (body_tells op_at plain calls))))
+      (body_tells calls))))
 
   -- Functions are read as the grammar has them; nothing goes on with one.
-  pub function_tells : IsTeller (function_at op_at) SpellsFunction Anything
-  unfolding function_at
-  function_tells = told_as SpellsFunction
+  pub function_tells : IsTeller function_at SpellsFunction Anything
+  function_tells = told_reading function_at same_function
+      (told_as SpellsFunction
       (λ f ms ts l. subst (λ (f : Function). SpellsFunction f ms ts) (sym l.1) (function_there l.0 ms ts l.2))
       function_back
-      (made_told function_of (λ t. Unit {0}) parts_tell)
+      (made_told make_function (λ t. Unit {0}) parts_tell))

@@ -28,7 +28,7 @@ told_some : (said : Option Name) → is_some said ≡ true
 told_some (Some name) e = refl
 told_some None e = absurd cc
 
-is_none : (said : Option Name) → is_some said ≡ false → said ≡ None
+pub is_none : (said : Option Name) → is_some said ≡ false → said ≡ None
 is_none (Some name) e = absurd cc
 is_none None e = refl
 

@@ -1,3 +1,7 @@
+pub mod SameReadings
+pub mod UntilLoops
+pub mod GatheredLists
+pub mod ListViews
 pub mod LastPieces
 pub mod OperandTokens
 pub mod ArgumentRuns
@@ -23,6 +27,9 @@ pub mod CallTellers
 pub mod CallChains
 pub mod DroppedCalls
 pub mod WholeFunctions
+pub mod LineAt
+pub mod BodyAt
+pub mod ToldAs
 pub mod ArgumentAt
 pub mod MinimumNames
 pub mod TailAt

@@ -10,7 +10,6 @@ use Rattle.ir_parts.specs.declared.ending.Ending.{Ending}
 use Rattle.ir_parts.specs.Reading.{begins, is_punctuation}
 use Rattle.ir_parts.specs.Runs.{goes_on}
 use Rattle.ir_body.specs.declared.operation.Operation.{Operation}
-use Rattle.ir_body.specs.Telling.{Telling}
 use Rattle.ir_body.specs.Opcodes.{begins_call}
 use Rattle.ir_body.proofs.Tellers.{IsTeller}
 use Rattle.ir_functions.specs.Calls.{call_at}
@@ -37,11 +36,6 @@ SpellsWhole operation = SpellsOp operation.op operation.words ⊙ silent attachm
 abbrev pub PlainOperation : Bool → Operation → Mentioning
 PlainOperation has_result operation ms ts = IsNoCall operation.op × (IsTrue has_result → MayHaveResult operation.op)
     × SpellsWhole operation ms ts
-
--- operations other than calls
-abbrev pub ReadsPlain : (Bool → Telling Operation) → Type 0
-ReadsPlain op_at = (has_result : Bool)
-    → IsTeller (op_at has_result) (PlainOperation has_result) (λ operation t. is_punctuation 44 t ≡ false)
 
 -- Calls, and what is dropped, with how their words end.
 pub record ReadsCalls (Chain : Bool → Option Operation × Option Ending → List Mention → List Lexeme → Type 0) : Type 0

@@ -9,22 +9,21 @@ use Rattle.ir_grammar.specs.Operations.{the_sign}
 use Rattle.ir_grammar.specs.Functions.{is_terminator, MayHaveResult, SpellsResult, SpellsInstr, dropped_instr}
 use Rattle.ir_parts.specs.declared.ending.Ending.{Ending}
 use Rattle.ir_body.specs.declared.operation.Operation.{Operation}
-use Rattle.ir_body.specs.Telling.{Telling}
 use Rattle.ir_functions.specs.declared.lines.Line.{Line}
 use Rattle.ir_functions.specs.Lines.{instr_of, named_line, numbered_instr, ends_block}
 use Rattle.ir_functions.proofs.GivenValues.{gives_back, gives_none, value_may, call_may, call_or_none, call_ends_none, numbered_value, numbered_none, numbered_op, numbered_spelled}
-use Rattle.ir_functions.proofs.LineFacts.{SpellsWhole, ReadsPlain, ReadsCalls}
+use Rattle.ir_functions.proofs.LineFacts.{SpellsWhole, ReadsCalls}
 use Rattle.ir_functions.proofs.ChainTellers.{SpellsChain}
 use Rattle.ir_functions.proofs.LineTellers.{SpellsDefined, SpellsAnyLine, empty_line, record_words}
 use Rattle.ir_functions.proofs.Regrouped.{left_parts, right_parts, left_told, right_told}
 
 module _ {Chain : Bool → Option Operation × Option Ending → List Mention → List Lexeme → Type 0}
-    (op_at : Bool → Telling Operation) (plain : ReadsPlain op_at) (calls : ReadsCalls Chain) where
+    (calls : ReadsCalls Chain) where
   -- ---- what an operation or a call says
 
   chain_says : (has_result : Bool) (operation : Operation) (tail : Option Ending) (ms : List Mention)
       (ts : List Lexeme)
-      → SpellsChain op_at plain calls has_result (Some operation, tail) ms ts
+      → SpellsChain calls has_result (Some operation, tail) ms ts
       → (IsTrue has_result → MayHaveResult operation.op) × SpellsWhole operation ms ts
   chain_says has_result operation tail ms ts (inl l) =
       let says = calls.call_there has_result operation tail ms ts l in (λ h. call_may operation.op says.0, says.1)
@@ -38,8 +37,8 @@ module _ {Chain : Bool → Option Operation × Option Ending → List Mention �
           ap (λ (p : Option Operation × Option Ending). p.0) e in cc
 
   -- what is dropped
-  none_says : (has_result : Bool) (tail : Option Ending) (ms : List Mention) (ts : List Lexeme)
-      → SpellsChain op_at plain calls has_result (None, tail) ms ts → Chain has_result (None, tail) ms ts
+  pub none_says : (has_result : Bool) (tail : Option Ending) (ms : List Mention) (ts : List Lexeme)
+      → SpellsChain calls has_result (None, tail) ms ts → Chain has_result (None, tail) ms ts
   none_says has_result tail ms ts (inl l) = l
   none_says has_result tail ms ts (inr l) =
       absurd (let none : ◌≡◌ {A = Option Operation} None (Some l.0) =
@@ -47,7 +46,7 @@ module _ {Chain : Bool → Option Operation × Option Ending → List Mention �
 
   chain_told : (has_result : Bool) (operation : Operation) (ms : List Mention) (ts : List Lexeme)
       → (IsTrue has_result → MayHaveResult operation.op) → SpellsWhole operation ms ts
-      → (tail : Option Ending) × SpellsChain op_at plain calls has_result (Some operation, tail) ms ts
+      → (tail : Option Ending) × SpellsChain calls has_result (Some operation, tail) ms ts
   chain_told has_result operation ms ts may whole = elim (call_or_none operation.op) [
     | inl is ↦
         let call = calls.call_back has_result operation ms ts is whole in (call.0, inl call.1)
@@ -57,7 +56,7 @@ module _ {Chain : Bool → Option Operation × Option Ending → List Mention �
   -- what ends a block ends in no run
   chain_ends : (has_result : Bool) (operation : Operation) (tail : Option Ending) (ms : List Mention)
       (ts : List Lexeme)
-      → SpellsChain op_at plain calls has_result (Some operation, tail) ms ts
+      → SpellsChain calls has_result (Some operation, tail) ms ts
       → is_terminator operation.op ≡ true → tail ≡ None
   chain_ends has_result operation tail ms ts (inl l) e =
       absurd (let none = call_ends_none operation.op (calls.call_there has_result operation tail ms ts l).0 in cc)
@@ -66,7 +65,7 @@ module _ {Chain : Bool → Option Operation × Option Ending → List Mention �
   -- ---- with a name
 
   named_says : (v : ValueId) (operation : Operation) (tail : Option Ending) (ms : List Mention) (ts : List Lexeme)
-      → (SpellsDefined v ⊙ (the_sign 61 ⊙ SpellsChain op_at plain calls true (Some operation, tail))) ms ts
+      → (SpellsDefined v ⊙ (the_sign 61 ⊙ SpellsChain calls true (Some operation, tail))) ms ts
       → SpellsInstr (instr_of (Some v) operation) ms ts
   named_says v operation tail ms ts l =
       let m = left_told ms ts l in
@@ -106,7 +105,7 @@ module _ {Chain : Bool → Option Operation × Option Ending → List Mention �
 
   -- the instruction of a line
   pub line_says : (line : Line) (instr : Instr) (ms : List Mention) (ts : List Lexeme) → line.instr ≡ Some instr
-      → SpellsAnyLine op_at plain calls line ms ts → SpellsInstr instr ms ts
+      → SpellsAnyLine calls line ms ts → SpellsInstr instr ms ts
   line_says line instr ms ts is (inl l) =
       no_instr (SpellsInstr instr ms ts) instr (sym (ap (λ (line : Line). line.instr) l.1) ∙ is)
   line_says line instr ms ts is (inr (inl ((v, (None, tail)), same, l))) =
@@ -128,7 +127,7 @@ module _ {Chain : Bool → Option Operation × Option Ending → List Mention �
 
   -- a line with no instruction
   pub line_drops : (line : Line) (ms : List Mention) (ts : List Lexeme) → line.instr ≡ None
-      → SpellsAnyLine op_at plain calls line ms ts → (ms ≡ []) × dropped_instr ts
+      → SpellsAnyLine calls line ms ts → (ms ≡ []) × dropped_instr ts
   line_drops line ms ts is (inl l) = (l.2.0, of_record l.2.1)
     where
       of_record : record_words ts → dropped_instr ts
@@ -153,7 +152,7 @@ module _ {Chain : Bool → Option Operation × Option Ending → List Mention �
 
   -- a line that ends a block ends in no run
   pub line_ends : (line : Line) (ms : List Mention) (ts : List Lexeme) → ends_block line ≡ true
-      → SpellsAnyLine op_at plain calls line ms ts → line.tail ≡ None
+      → SpellsAnyLine calls line ms ts → line.tail ≡ None
   line_ends line ms ts e (inl l) = ap (λ (line : Line). line.tail) l.1
   line_ends line ms ts e (inr (inl ((v, (None, tail)), same, l))) =
       absurd (let f = sym (ap ends_block same) ∙ e in cc)
@@ -173,7 +172,7 @@ module _ {Chain : Bool → Option Operation × Option Ending → List Mention �
 
   -- what is dropped
   pub dropped_line : (ts : List Lexeme) → dropped_instr ts
-      → (line : Line) × (line.instr ≡ None) × SpellsAnyLine op_at plain calls line [] ts
+      → (line : Line) × (line.instr ≡ None) × SpellsAnyLine calls line [] ts
   dropped_line ts (us, vs, parts, inl l, m) =
       (empty_line, refl, inl (tt, refl, (refl, right_parts ts (us, vs, parts, l, m))))
   dropped_line ts (us, vs, parts, inr l, m) =
@@ -195,7 +194,7 @@ module _ {Chain : Bool → Option Operation × Option Ending → List Mention �
   -- an instruction, by its parts
   instr_line : (result : Option ValueId) (operation : Operation) (ms : List Mention) (ts : List Lexeme)
       → (SpellsResult operation.op result ⊙ SpellsWhole operation) ms ts
-      → (line : Line) × (line.instr ≡ Some (instr_of result operation)) × SpellsAnyLine op_at plain calls line ms ts
+      → (line : Line) × (line.instr ≡ Some (instr_of result operation)) × SpellsAnyLine calls line ms ts
   instr_line None operation ms ts (before, behind, whole, (us, vs, parts, (none, (silent, empty)), l)) =
       let chain = chain_told false operation ms ts (λ h. absurd (let e = h in cc))
       (nothing_first (SpellsWhole operation) ms before behind ts us vs whole parts silent empty l) in
@@ -241,12 +240,12 @@ module _ {Chain : Bool → Option Operation × Option Ending → List Mention �
               (zero_id v id)
               ∙ ap (λ (p : Instr × List Mention). let line : Line × List Mention =
               (record { instr = Some p.0; tail = chain.0 }, p.1) in line) (sym same)),
-          subst (λ (ts : List Lexeme). SpellsChain op_at plain calls false (Some operation, chain.0) behind ts)
+          subst (λ (ts : List Lexeme). SpellsChain calls false (Some operation, chain.0) behind ts)
               (sym all) chain.1,
         )),
       )
 
   -- an instruction
   pub is_line : (instr : Instr) (ms : List Mention) (ts : List Lexeme) → SpellsInstr instr ms ts
-      → (line : Line) × (line.instr ≡ Some instr) × SpellsAnyLine op_at plain calls line ms ts
+      → (line : Line) × (line.instr ≡ Some instr) × SpellsAnyLine calls line ms ts
   is_line instr ms ts l = instr_line instr.result (record { op = instr.op; words = instr.words }) ms ts l

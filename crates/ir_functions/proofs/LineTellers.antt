@@ -22,14 +22,13 @@ use Rattle.ir_parts.proofs.NoneGoesOn.{refused_there}
 use Rattle.ir_parts.proofs.Combined.{behind_token}
 use Rattle.ir_parts.proofs.MetadataReaders.{NoComma, single, parentheses_read, attachments_read}
 use Rattle.ir_body.specs.declared.operation.Operation.{Operation}
-use Rattle.ir_body.specs.Telling.{Telling}
 use Rattle.ir_parts.proofs.SaidNames.{local_there, local_back}
 use Rattle.ir_body.proofs.Tellers.{IsTeller, silent_tells, made_tells, both, skip, sign_tells}
 use Rattle.ir_functions.specs.declared.lines.Line.{Line}
 use Rattle.ir_functions.specs.Silent.{is_record, record_at}
 use Rattle.ir_functions.specs.Lines.{record_line_at, told_definition, defined_at, is_local, named_line, named_line_at, numbered_line, operation_at, unnamed_line_at, line_at}
 use Rattle.ir_functions.proofs.LineStarts.{EndsLines, record_there, record_back, record_ends, is_local_there, is_local_back, local_ends, local_no_record}
-use Rattle.ir_functions.proofs.LineFacts.{StopsTail, ReadsPlain, ReadsCalls}
+use Rattle.ir_functions.proofs.LineFacts.{StopsTail, ReadsCalls}
 use Rattle.ir_functions.proofs.ChainTellers.{BeginsChain, SpellsChain, operation_tells, chain_begins}
 
 -- ---- records
@@ -134,30 +133,30 @@ pub record BeginsLine (ts : List Lexeme) : Type 0 where
   pub ends : EndsLines first
 
 module _ {Chain : Bool → Option Operation × Option Ending → List Mention → List Lexeme → Type 0}
-    (op_at : Bool → Telling Operation) (plain : ReadsPlain op_at) (calls : ReadsCalls Chain) where
+    (calls : ReadsCalls Chain) where
   -- `%name =` and what it defines
   abbrev pub SpellsNamedLine : Line → Mentioning
   SpellsNamedLine line ms ts = (p : ValueId × (Option Operation × Option Ending)) × (line ≡ named_line p)
-      × (SpellsDefined p.0 ⊙ (the_sign 61 ⊙ SpellsChain op_at plain calls true p.1)) ms ts
+      × (SpellsDefined p.0 ⊙ (the_sign 61 ⊙ SpellsChain calls true p.1)) ms ts
 
   -- what stands without a name
   abbrev pub SpellsUnnamedLine : Line → Mentioning
   SpellsUnnamedLine line ms ts = (told : (Option Operation × Option Ending) × List Mention)
-      × ((line, ms) ≡ numbered_line told) × SpellsChain op_at plain calls false told.0 told.1 ts
+      × ((line, ms) ≡ numbered_line told) × SpellsChain calls false told.0 told.1 ts
 
   abbrev pub SpellsAnyLine : Line → Mentioning
   SpellsAnyLine line ms ts = SpellsRecordLine line ms ts ⊎ (SpellsNamedLine line ms ts ⊎ SpellsUnnamedLine line ms ts)
 
-  named_tells : IsTeller (named_line_at op_at) SpellsNamedLine (λ line. StopsTail line.tail)
+  named_tells : IsTeller named_line_at SpellsNamedLine (λ line. StopsTail line.tail)
   unfolding named_line_at
   named_tells = made_tells named_line (λ line. StopsTail line.tail) (λ p t stop. stop) (λ p t stop. stop)
-      (both defined_tells (skip (sign_tells 61) (operation_tells op_at plain calls true)))
+      (both defined_tells (skip (sign_tells 61) (operation_tells calls true)))
 
-  unnamed_tells : IsTeller (unnamed_line_at op_at) SpellsUnnamedLine (λ line. StopsTail line.tail)
+  unnamed_tells : IsTeller unnamed_line_at SpellsUnnamedLine (λ line. StopsTail line.tail)
   unfolding unnamed_line_at
   unnamed_tells = record {
     reader = mapped numbered_line (λ told t. StopsTail told.0.tail t) there back
-        (operation_tells op_at plain calls false).reader;
+        (operation_tells calls false).reader;
   }
     where
       there : (told : (Option Operation × Option Ending) × List Mention) (t : Lexeme) → StopsTail told.0.1 t
@@ -193,7 +192,7 @@ module _ {Chain : Bool → Option Operation × Option Ending → List Mention �
       }
 
   unnamed_begins : (line : Line) (ms : List Mention) (ts : List Lexeme) → SpellsUnnamedLine line ms ts → BeginsChain ts
-  unnamed_begins line ms ts l = chain_begins op_at plain calls false l.0.0 l.0.1 ts l.2
+  unnamed_begins line ms ts l = chain_begins calls false l.0.0 l.0.1 ts l.2
 
   local_starts : (line : Line) (ms : List Mention) (ts : List Lexeme) → SpellsNamedLine line ms ts
       → begins is_local ts ≡ true
@@ -216,7 +215,7 @@ module _ {Chain : Bool → Option Operation × Option Ending → List Mention �
       let b = unnamed_begins line ms taken l in
       ap (λ (ts : List Lexeme). begins is_record (ts ++ rest)) b.parts ∙ b.no_record
 
-  named_begun : (t : Lexeme) (ts : List Lexeme) → is_local t ≡ true → named_line_at op_at (t ∷ ts)
+  named_begun : (t : Lexeme) (ts : List Lexeme) → is_local t ≡ true → named_line_at (t ∷ ts)
       ≡ Err (suc (length ts)) → ⊥
   named_begun t ts passed e = refused_there named_tells.reader [] ts t e (record {
     whole = (named_line (id, sample.some.0), DefinesValue (Some name.0) ∷ sample.some.1);
@@ -245,15 +244,15 @@ module _ {Chain : Bool → Option Operation × Option Ending → List Mention �
       id : ValueId
       id = record { 0 = 0 }
 
-      sample : IsReader (operation_at op_at true)
+      sample : IsReader (operation_at true)
           (λ (told : (Option Operation × Option Ending) × List Mention) ts.
-          SpellsChain op_at plain calls true told.0 told.1 ts)
+          SpellsChain calls true told.0 told.1 ts)
           (λ told t. StopsTail told.0.1 t)
-      sample = (operation_tells op_at plain calls true).reader
+      sample = (operation_tells calls true).reader
 
   -- ---- the reading
 
-  pub line_tells : IsTeller (line_at op_at) SpellsAnyLine (λ line. StopsTail line.tail)
+  pub line_tells : IsTeller line_at SpellsAnyLine (λ line. StopsTail line.tail)
   unfolding line_at
   line_tells = record {
     reader = chosen is_record record_line_tells.reader

@@ -12,35 +12,34 @@ use Rattle.ir_parts.specs.declared.ending.Ending.{Ending}
 use Rattle.ir_parts.specs.Reading.{is_punctuation}
 use Rattle.ir_parts.proofs.Readers.{StopsAt}
 use Rattle.ir_body.specs.declared.operation.Operation.{Operation}
-use Rattle.ir_body.specs.Telling.{Telling}
 use Rattle.ir_body.proofs.Tellers.{IsTeller}
 use Rattle.ir_functions.specs.declared.lines.Line.{Line}
 use Rattle.ir_functions.specs.Lines.{ends_block, lines_at, with_instr, instrs_of}
 use Rattle.ir_functions.proofs.LineStarts.{EndsLines}
-use Rattle.ir_functions.proofs.LineFacts.{EndsTail, StopsTail, ReadsPlain, ReadsCalls}
+use Rattle.ir_functions.proofs.LineFacts.{EndsTail, StopsTail, ReadsCalls}
 use Rattle.ir_functions.proofs.LineTellers.{SpellsAnyLine, line_tells, line_begins}
 use Rattle.ir_functions.proofs.LineSayings.{line_says, line_drops, line_ends, dropped_line, is_line}
 use Rattle.ir_functions.proofs.UntilTellers.{UntilLastTold, until_tells}
 
 module _ {Chain : Bool → Option Operation × Option Ending → List Mention → List Lexeme → Type 0}
-    (op_at : Bool → Telling Operation) (plain : ReadsPlain op_at) (calls : ReadsCalls Chain) where
+    (calls : ReadsCalls Chain) where
   -- the lines, of which only the last ends the block
   abbrev pub SpellsLines : List Line → Mentioning
-  SpellsLines = UntilLastTold ends_block (SpellsAnyLine op_at plain calls)
+  SpellsLines = UntilLastTold ends_block (SpellsAnyLine calls)
 
   -- ---- what one line is to the next
 
-  some_tokens : (line : Line) (ms : List Mention) → SpellsAnyLine op_at plain calls line ms [] → ⊥
-  some_tokens line ms l = let b = line_begins op_at plain calls line ms [] l in let e = b.parts in cc
+  some_tokens : (line : Line) (ms : List Mention) → SpellsAnyLine calls line ms [] → ⊥
+  some_tokens line ms l = let b = line_begins calls line ms [] l in let e = b.parts in cc
 
   ends_tail : (tail : Option Ending) (t : Lexeme) → EndsLines t → EndsTail tail t
   ends_tail None t ends = tt
   ends_tail (Some ending) t ends = ends.no_words ending
 
   next_ends : (line next : Line) (ms : List Mention) (taken rest : List Lexeme) → ends_block line ≡ false
-      → SpellsAnyLine op_at plain calls next ms taken → StopsAt (StopsTail line.tail) (taken ++ rest)
+      → SpellsAnyLine calls next ms taken → StopsAt (StopsTail line.tail) (taken ++ rest)
   next_ends line next ms taken rest isnt l =
-      let b = line_begins op_at plain calls next ms taken l in
+      let b = line_begins calls next ms taken l in
       subst (λ (ts : List Lexeme). StopsAt (StopsTail line.tail) (ts ++ rest)) (sym b.parts)
       (b.ends.no_comma, ends_tail line.tail b.first b.ends)
 
@@ -74,8 +73,8 @@ module _ {Chain : Bool → Option Operation × Option Ending → List Mention �
   )
 
   stuck_line : (line : Line) × (line.instr ≡ Some stuck)
-      × SpellsAnyLine op_at plain calls line [] (word (codes "unreachable") ∷ [])
-  stuck_line = is_line op_at plain calls stuck [] (word (codes "unreachable") ∷ []) stuck_spelled
+      × SpellsAnyLine calls line [] (word (codes "unreachable") ∷ [])
+  stuck_line = is_line calls stuck [] (word (codes "unreachable") ∷ []) stuck_spelled
 
   stuck_ends : ends_block stuck_line.0 ≡ true
   unfolding stuck
@@ -83,16 +82,16 @@ module _ {Chain : Bool → Option Operation × Option Ending → List Mention �
 
   -- ---- the reading
 
-  pub lines_tell : IsTeller (lines_at op_at) SpellsLines (λ lines t. is_punctuation 44 t ≡ false)
+  pub lines_tell : IsTeller lines_at SpellsLines (λ lines t. is_punctuation 44 t ≡ false)
   unfolding lines_at
-  lines_tell = until_tells ends_block (SpellsAnyLine op_at plain calls) (λ line. StopsTail line.tail)
-      (line_tells op_at plain calls) some_tokens next_ends
+  lines_tell = until_tells ends_block (SpellsAnyLine calls) (λ line. StopsTail line.tail)
+      (line_tells calls) some_tokens next_ends
       stuck_line.0 [] (word (codes "unreachable") ∷ []) stuck_ends stuck_line.2
       (λ t. is_punctuation 44 t ≡ false)
       (λ line ms ts t is l stop. stop.0)
       (λ line ms ts t is l stop. (
         stop,
-        subst (λ (tail : Option Ending). EndsTail tail t) (sym (line_ends op_at plain calls line ms ts is l)) tt,
+        subst (λ (tail : Option Ending). EndsTail tail t) (sym (line_ends calls line ms ts is l)) tt,
       ))
 
   -- ---- the instructions of lines
@@ -161,23 +160,23 @@ module _ {Chain : Bool → Option Operation × Option Ending → List Mention �
   line_more : (line : Line) (o : Option Instr) → line.instr ≡ o → (instrs : List Instr)
       → (ms before behind : List Mention) (ts us vs : List Lexeme)
       → ends_block line ≡ false → ms ≡ before ++ behind → ts ≡ us ++ vs
-      → SpellsAnyLine op_at plain calls line before us → SpellsInstrs instrs behind vs
+      → SpellsAnyLine calls line before us → SpellsInstrs instrs behind vs
       → SpellsInstrs (with_instr o instrs) ms ts
   line_more line None is instrs ms before behind ts us vs isnt whole parts first l =
-      let drops = line_drops op_at plain calls line before us is first in
+      let drops = line_drops calls line before us is first in
       subst (λ (ms : List Mention). SpellsInstrs instrs ms ts)
       (sym (whole ∙ ap (λ (b : List Mention). b ++ behind) drops.0))
       (prepended instrs behind ts us vs parts drops.1 l)
   line_more line (Some instr) is instrs ms before behind ts us vs isnt whole parts first l =
       appended instr instrs ms before behind ts us vs (sym (ends_by line instr is) ∙ isnt) whole parts
-      (line_says op_at plain calls line instr before us is first) l
+      (line_says calls line instr before us is first) l
 
   -- the last line
   line_last : (line : Line) (o : Option Instr) → line.instr ≡ o → (ms : List Mention) (ts : List Lexeme)
-      → ends_block line ≡ true → SpellsAnyLine op_at plain calls line ms ts → SpellsInstrs (with_instr o []) ms ts
+      → ends_block line ≡ true → SpellsAnyLine calls line ms ts → SpellsInstrs (with_instr o []) ms ts
   line_last line None is ms ts ends l = absurd (let isnt = ends_none line is in cc)
   line_last line (Some instr) is ms ts ends l =
-      (sym (ends_by line instr is) ∙ ends, alone instr ms ts (line_says op_at plain calls line instr ms ts is l))
+      (sym (ends_by line instr is) ∙ ends, alone instr ms ts (line_says calls line instr ms ts is l))
 
   -- Lines spell their instructions.
   pub lines_say : (lines : List Line) (ms : List Mention) (ts : List Lexeme) → SpellsLines lines ms ts
@@ -200,7 +199,7 @@ module _ {Chain : Bool → Option Operation × Option Ending → List Mention �
   one_more : (line : Line) (o : Option Instr) → line.instr ≡ o → (instrs : List Instr)
       → (ms before behind : List Mention) (ts us vs : List Lexeme)
       → ends_block line ≡ false → ms ≡ before ++ behind → ts ≡ us ++ vs
-      → SpellsAnyLine op_at plain calls line before us → LinesOf instrs behind vs
+      → SpellsAnyLine calls line before us → LinesOf instrs behind vs
       → LinesOf (with_instr o instrs) ms ts
   one_more line o is instrs ms before behind ts us vs isnt whole parts first m = of_lines m.lines m.same m.spelled
     where
@@ -218,7 +217,7 @@ module _ {Chain : Bool → Option Operation × Option Ending → List Mention �
       → LinesOf instrs ms vs → LinesOf instrs ms (us ++ vs)
   dropped_before instrs ms us vs none m = m
   dropped_before instrs ms us vs (more front behind parts first others) m =
-      let line = dropped_line op_at plain calls front first in
+      let line = dropped_line calls front first in
       one_more line.0 None line.1 instrs ms [] ms (us ++ vs) front (behind ++ vs) (ends_none line.0 line.1) refl
       (ap (λ (us : List Lexeme). us ++ vs) parts ∙ append_assoc front behind vs) line.2
       (dropped_before instrs ms behind vs others m)
@@ -232,14 +231,14 @@ module _ {Chain : Bool → Option Operation × Option Ending → List Mention �
   last_lines : (instr : Instr) (ms : List Mention) (ts : List Lexeme) → is_terminator instr.op ≡ true
       → SpellsLine instr ms ts → LinesOf (instr ∷ []) ms ts
   last_lines instr ms ts is l =
-      let line = is_line op_at plain calls instr l.1 l.3.1 l.3.4 in
+      let line = is_line calls instr l.1 l.3.1 l.3.4 in
       let mentions : ms ≡ l.1 = l.2 ∙ ap (λ (b : List Mention). b ++ l.1) l.3.3.0 in
       line_of instr (instr ∷ []) ms ts l.3.0 l.3.1 l.3.2 l.3.3.1 (record {
         lines = line.0 ∷ [];
         same = ap (λ (o : Option Instr). with_instr o []) line.1;
         spelled = (
           ends_by line.0 instr line.1 ∙ is,
-          subst (λ (ms : List Mention). SpellsAnyLine op_at plain calls line.0 ms l.3.1) (sym mentions) line.2,
+          subst (λ (ms : List Mention). SpellsAnyLine calls line.0 ms l.3.1) (sym mentions) line.2,
         );
       })
 
@@ -247,13 +246,13 @@ module _ {Chain : Bool → Option Operation × Option Ending → List Mention �
       → is_terminator instr.op ≡ false → ms ≡ before ++ behind → ts ≡ us ++ vs → SpellsLine instr before us
       → LinesOf instrs behind vs → LinesOf (instr ∷ instrs) ms ts
   more_lines instr instrs ms before behind ts us vs isnt whole parts l m =
-      let line = is_line op_at plain calls instr l.1 l.3.1 l.3.4 in
+      let line = is_line calls instr l.1 l.3.1 l.3.4 in
       let mentions : before ≡ l.1 = l.2 ∙ ap (λ (b : List Mention). b ++ l.1) l.3.3.0 in
       line_of instr (instr ∷ instrs) ms ts l.3.0 (l.3.1 ++ vs)
       (parts ∙ (ap (λ (us : List Lexeme). us ++ vs) l.3.2 ∙ append_assoc l.3.0 l.3.1 vs)) l.3.3.1
       (one_more line.0 (Some instr) line.1 instrs ms before behind (l.3.1 ++ vs) l.3.1 vs
       (ends_by line.0 instr line.1 ∙ isnt) whole refl
-      (subst (λ (ms : List Mention). SpellsAnyLine op_at plain calls line.0 ms l.3.1) (sym mentions) line.2) m)
+      (subst (λ (ms : List Mention). SpellsAnyLine calls line.0 ms l.3.1) (sym mentions) line.2) m)
 
   -- Instructions are spelled by lines.
   pub are_lines : (instrs : List Instr) (ms : List Mention) (ts : List Lexeme) → SpellsInstrs instrs ms ts

@@ -1,6 +1,6 @@
 -- Reading arguments of calls: `type W v`. The operand is what stands directly before the `,` or `)`; so a word that may
 -- be passed on, as `null`, is the operand where nothing more stands behind it, and so is the numeral behind `align`.
-use Rattle.std.specs.Prelude.{ℕ, ◌-◌, Bool, true, false, ◌&&◌, not, if◌then◌else◌, List, length, map, take, slice_get, Option, Some, None, Result, Ok, Err}
+use Rattle.std.specs.Prelude.{ℕ, ◌-◌, Bool, true, false, ◌&&◌, not, if◌then◌else◌, List, [], length, map, take, slice_get, Option, Some, None, Result, Ok, Err}
 use Rattle.std.specs.Option.{option_and_then, is_some}
 use Rattle.ir_model.specs.declared.types.IrType.{IrType}
 use Rattle.ir_model.specs.declared.op.Operand.{Operand}
@@ -10,12 +10,12 @@ use Rattle.ir_text.specs.Mentions.{Mention}
 use Rattle.ir_parts.specs.declared.ending.Ending.{Ending}
 use Rattle.ir_parts.specs.declared.ending.Ending.TheVariants.{Word, Placed}
 use Rattle.ir_parts.specs.declared.ending.Run.{Run}
-use Rattle.ir_parts.specs.Reading.{is_word_kind, punctuation_at, choose, taking}
+use Rattle.ir_parts.specs.Reading.{is_word_kind, is_punctuation, punctuation_at, choose, taking}
 use Rattle.ir_parts.specs.TypeReading.{scalar_type_at}
 use Rattle.ir_parts.specs.WordsReading.{run_at}
 use Rattle.ir_parts.specs.ListReading.{with_commas_at, listed_at}
 use Rattle.ir_parts.specs.Reading as reading
-use Rattle.ir_body.specs.Telling.{Telling, ◌>>=◌, made, silently}
+use Rattle.ir_body.specs.Telling.{Telling, give, ◌>>=◌, ◌▷◌, ◌◁◌, made, silently, sign_at}
 use Rattle.ir_body.specs.Operands.{operand_of, operand_at}
 use Rattle.ir_body.specs.Gathered.{gathered}
 use Rattle.ir_functions.specs.declared.arguments.Argument.{Argument}
@@ -78,9 +78,6 @@ arguments_of args = record {
   words = map (λ (arg : Argument). arg.words) args;
 }
 
-unfoldable pub given_at : Telling Arguments
-given_at = made arguments_of arguments_at
-
 -- one argument or more
 unfoldable pub some_given_at : Telling Arguments
 some_given_at = made arguments_of (reading.made gathered (with_commas_at argument_at))
@@ -88,3 +85,7 @@ some_given_at = made arguments_of (reading.made gathered (with_commas_at argumen
 -- one more, behind a comma
 unfoldable pub next_argument_at : Telling Argument
 next_argument_at = reading.◌▷◌ (punctuation_at 44) argument_at
+
+-- all arguments, and the `)`
+unfoldable pub given_at : Telling Arguments
+given_at = choose (is_punctuation 41) (sign_at 41 ▷ give (arguments_of [])) (some_given_at ◁ sign_at 41)

@@ -13,12 +13,12 @@ use Rattle.ir_text.specs.Said.{said_label, said_global}
 use Rattle.ir_text.specs.Mentions.{Mention, DefinesValue, DefinesBlock}
 use Rattle.ir_parts.specs.declared.ending.Ending.{Ending}
 use Rattle.ir_parts.specs.declared.ending.Run.{Run}
-use Rattle.ir_parts.specs.Reading.{Read, punctuation_at, one_at, choose}
+use Rattle.ir_parts.specs.Reading.{Read, is_punctuation, punctuation_at, one_at, choose}
 use Rattle.ir_parts.specs.Reading as reading
 use Rattle.ir_parts.specs.TypeReading.{scalar_type_at, returned_type_at}
 use Rattle.ir_parts.specs.MetadataReading.{pairs_at}
 use Rattle.ir_parts.specs.ListReading.{with_commas_at, listed_at, all_up_to_at}
-use Rattle.ir_body.specs.Telling.{Telling, silently, made, word_at, sign_at, ◌⊗◌, ◌▷◌}
+use Rattle.ir_body.specs.Telling.{Telling, give, silently, made, word_at, sign_at, ◌⊗◌, ◌▷◌, ◌◁◌}
 use Rattle.ir_body.specs.Gathered.{gathered}
 use Rattle.ir_parts.specs.WordsReading.{words_at}
 use Rattle.ir_functions.specs.Lines.{defined_at, is_local, instrs_at}
@@ -73,9 +73,6 @@ params_of params = map (λ (p : Param × Option Ending). p.0) params
 unfoldable pub params_at : Telling (List (Param × Option Ending))
 params_at = reading.made gathered (listed_at param_at 41)
 
-unfoldable pub taken_params_at : Telling (List Param)
-taken_params_at = made params_of params_at
-
 -- one parameter or more
 unfoldable pub some_params_at : Telling (List Param)
 some_params_at = made params_of (reading.made gathered (with_commas_at param_at))
@@ -83,6 +80,10 @@ some_params_at = made params_of (reading.made gathered (with_commas_at param_at)
 -- one more, behind a comma
 unfoldable pub next_param_at : Telling (Param × Option Ending)
 next_param_at = reading.◌▷◌ (punctuation_at 44) param_at
+
+-- all parameters, and the `)`
+unfoldable pub taken_params_at : Telling (List Param)
+taken_params_at = choose (is_punctuation 41) (sign_at 41 ▷ give []) (some_params_at ◁ sign_at 41)
 
 -- ---- functions
 

@@ -5,3 +5,4 @@ pub mod Lines
 pub mod Functions
 pub mod ArgumentViews
 pub mod Views
+pub mod Sentences

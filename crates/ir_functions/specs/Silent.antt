@@ -27,10 +27,6 @@ head_at = made (λ p. record { tail = p.0; before = p.1.0.1; ret = p.1.1 })
 unfoldable pub trailing_at : Read ((Run × List ℕ) × (Unit {0} × List Lexeme))
 trailing_at = words_at ⊗ taking attachments_at
 
--- a call that is dropped, behind its callee
-unfoldable pub dropped_call_at : Read ((Run × List ℕ) × (Unit {0} × List Lexeme))
-dropped_call_at = parentheses_at ▷ trailing_at
-
 -- ---- debug records
 
 -- `#` and a word

@@ -40,6 +40,7 @@ impl Arguments {
 }
 
 /// The arguments with commas between them, and the place behind the `)`.
+#[tactic(auto, unfolding(crate::specs::Arguments::given_at), using(ir_body::proofs::Told::told))]
 pub(crate) fn read_arguments(
     alloc: Global,
     tokens: &Tokens<'_>,

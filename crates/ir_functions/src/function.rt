@@ -1,10 +1,12 @@
 //! Blocks and functions.
 
-ghost use Rattle.std.specs.Prelude.{◌<◌, ◌≤◌, [], ◌∷◌, length, IfOk};
+ghost use Rattle.std.specs.Prelude.{◌≡◌, ◌<◌, ◌≤◌, [], ◌∷◌, length, IfOk};
 ghost use Rattle.ir_text.specs.Sites.{function_sites, block_sites, bare_function, bare_block};
+ghost use Rattle.ir_grammar.specs.Functions.{SpellsFunction};
 ghost use Rattle.ir_parts.specs.Reading.{left_from, ReadsAs};
 ghost use Rattle.ir_parts.specs.Places.{mentions_at};
 ghost use Rattle.ir_functions.specs.Functions.{block_at, body_at, function_at};
+ghost use Rattle.ir_functions.specs.Sentences.{WithMentions, TellsAs};
 ghost use Rattle.ir_functions.specs.Views.{bare_blocks, blocks_sites};
 
 use crate::labels::block_name;
@@ -20,13 +22,16 @@ use std::alloc::{AllocError, Global};
 /// A function with a body, and the place behind its `}`. Each id in it is the position of a token: of the name, or, where
 /// what is defined has none, of the first token of what is defined. Its tables are empty.
 ///
-/// A fault stands at the first token with which no function goes on.
+/// Seen without ids and with the names that are mentioned, it is what the tokens spell. A fault stands at the first
+/// token with which no function goes on.
 pub fn read_function(
     alloc: Global,
     tokens: &Tokens<'_>,
     from: usize,
 ) -> Result<(Function, usize), ItemFault>
     requires { from ≤ length tokens.now.tokens }
+    ensures sentence { TellsAs (λ f. (bare_function f, mentions_at tokens.now (function_sites f)))
+        (WithMentions SpellsFunction) tokens.now from result }
     ensures value { ReadsAs (λ f. (bare_function f, mentions_at tokens.now (function_sites f))) tokens.now result
         (function_at (left_from tokens.now from)) }
     ensures forth { IfOk result (λ read. (from < read.1) × (read.1 ≤ length tokens.now.tokens)) }
@@ -79,7 +84,7 @@ fn body(alloc: Global, tokens: &Tokens<'_>, from: usize) -> Result<(Items<Block>
     let (first, behind) = block(alloc, tokens, from)?;
     blocks.push(first)?;
     let mut at = behind;
-    'blocks: while !starts_sign(tokens, at, b'}') {
+    'others: while !starts_sign(tokens, at, b'}') {
         let (next, behind) = block(alloc, tokens, at)?;
         blocks.push(next)?;
         at = behind;

@@ -150,6 +150,7 @@ fn instr_of(value: Option<ValueId>, operation: Operation) -> Instr
 }
 
 /// An instruction with no name before it: where it gives a value, the value's id is the place where it begins.
+#[tactic(auto, unfolding(crate::specs::Lines::unnamed_line_at))]
 fn unnamed_line(alloc: Global, tokens: &Tokens<'_>, from: usize) -> Result<(Line, usize), ItemFault>
     requires within { from ≤ length tokens.now.tokens }
     requires nameless { said_at said_local tokens.now from ≡ None }

@@ -14,6 +14,7 @@ use sqlite_items::Items;
 use std::alloc::Global;
 
 /// The parameters with commas between them, and the place behind the `)`.
+#[tactic(auto, unfolding(crate::specs::Functions::taken_params_at), using(ir_body::proofs::Told::told))]
 pub(crate) fn read_params(
     alloc: Global,
     tokens: &Tokens<'_>,
