@@ -14,7 +14,7 @@ use Rattle.ir_lex.specs.Tokenized.{Tokenized, lexemes}
 use Rattle.ir_parts.specs.declared.fault.ItemFault.{ItemFault}
 use Rattle.ir_parts.specs.declared.fault.ItemFault.TheVariants.{CannotGoOn, OutOfMemory}
 use Rattle.ir_parts.specs.declared.ending.Ending.{Ending}
-use Rattle.ir_parts.specs.Reading.{Read, made, is_keyword, choose}
+use Rattle.ir_parts.specs.Reading.{Read, ◌>>=◌, pure, refuse, made, is_keyword, choose}
 use Rattle.ir_parts.specs.MetadataReading.{is_metadata}
 use Rattle.ir_parts.specs.ListReading.{all_to_end_at}
 use Rattle.ir_parts.specs.Places.{draft_of}
@@ -89,8 +89,11 @@ abbrev pub ends_in_comma : ItemEnding → Bool
 ends_in_comma (Global (global.Words ending)) = is_empty_run ending
 ends_in_comma _ = false
 
+abbrev pub barred_behind : ItemEnding → Lexeme → Bool
+barred_behind ending t = ends_in_comma ending && is_metadata t
+
 abbrev pub barred : Told → Lexeme → Bool
-barred told t = ends_in_comma told.0.1 && is_metadata t
+barred told t = barred_behind told.0.1 t
 
 -- what isn't dropped
 abbrev pub with_draft : Option Item → List Mention → List Draft → List Draft
@@ -106,6 +109,10 @@ items_at = made drafts_of (all_to_end_at barred item_at)
 
 -- ---- what the code reads
 
+-- an item behind which nothing is barred
+unfoldable pub free_item_at : Read Told
+free_item_at = item_at >>= λ told. choose (barred_behind told.0.1) refuse (pure told)
+
 -- an item without its ids, and the ids in it
 abbrev pub bare_item : Option Item × ItemEnding → Option Item × ItemEnding
 bare_item ended = (option_map without_ids ended.0, ended.1)
@@ -113,6 +120,11 @@ bare_item ended = (option_map without_ids ended.0, ended.1)
 abbrev pub sites_if_any : Option Item → List Site
 sites_if_any None = []
 sites_if_any (Some item) = item_sites item
+
+-- with one more item, where there is one
+abbrev pub with_item : List Item → Option Item → List Item
+with_item items None = items
+with_item items (Some item) = items ++ item ∷ []
 
 -- All items are read, or refused at a token, unless memory runs out.
 abbrev pub ReadsAll : Tokenized → Result (List Item) ItemFault → Type 0

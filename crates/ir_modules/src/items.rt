@@ -4,7 +4,7 @@ ghost use Rattle.std.specs.Prelude.{◌≡◌, ◌<◌, ◌≤◌, length, IfOk}
 ghost use Rattle.ir_parts.specs.Reading.{left_from, ReadsAs, begins};
 ghost use Rattle.ir_parts.specs.MetadataReading.{is_metadata};
 ghost use Rattle.ir_parts.specs.Places.{mentions_at};
-ghost use Rattle.ir_modules.specs.ItemsReading.{barred, bare_item, sites_if_any, is_global_name, ends_in_comma, global_item_at, metadata_dropped_at, declare_item_at, function_item_at, line_item_at, defined_or_line_at, worded_item_at, unnamed_item_at, item_at, ReadsAll};
+ghost use Rattle.ir_modules.specs.ItemsReading.{barred_behind, bare_item, sites_if_any, is_global_name, ends_in_comma, with_item, free_item_at, global_item_at, metadata_dropped_at, declare_item_at, function_item_at, line_item_at, defined_or_line_at, worded_item_at, unnamed_item_at, item_at, ReadsAll};
 
 use ir_functions::read_function;
 use ir_items::{GlobalEnding, ended_global, read_declare, read_passed_line, skip_metadata_item};
@@ -12,7 +12,7 @@ use ir_lex::{TokenKind, Tokens};
 use ir_model::Item;
 use ir_parts::{Ending, ItemFault, is_global, next, starts_keyword};
 use sqlite_items::Items;
-use std::alloc::Global;
+use std::alloc::{AllocError, Global};
 
 /// How an item ends, which tells what could still go on with it.
 #[derive(Clone, Copy, Debug, PartialEq, Eq)]
@@ -36,19 +36,50 @@ pub fn read_items(alloc: Global, tokens: &Tokens<'_>) -> Result<Items<Item>, Ite
     let mut items = Items::new(alloc);
     let mut at = 0;
     'items: while at < tokens.len() {
-        let ((next, ending), behind) = item(alloc, tokens, at)?;
-        if ends_in_comma(ending) && starts_metadata(tokens, behind) {
-            return Err(ItemFault::CannotGoOn { at_token: behind });
-        }
-        if let Some(next) = next {
-            items.push(next)?;
-        }
+        let (ended, behind) = free_item(alloc, tokens, at)?;
+        add(&mut items, ended.0)?;
         at = behind;
     }
     Ok(items)
 }
 
-/// Whether the item ends in a comma, behind which an empty run of words stands.
+/// Adds an item, where there is one.
+fn add(items: &mut Items<Item>, item: Option<Item>) -> Result<(), AllocError>
+    ensures { IfOk result (λ _. items.new ≡ with_item items.old item) }
+{
+    if let Some(item) = item {
+        items.push(item)?;
+    }
+    Ok(())
+}
+
+/// One item, behind which no metadata stands that would be an attachment.
+#[tactic(auto, unfolding(crate::specs::ItemsReading::free_item_at))]
+fn free_item(alloc: Global, tokens: &Tokens<'_>, from: usize) -> Result<(Ended, usize), ItemFault>
+    requires { from ≤ length tokens.now.tokens }
+    ensures value { ReadsAs (λ ended. (bare_item ended, mentions_at tokens.now (sites_if_any ended.0))) tokens.now
+        result (free_item_at (left_from tokens.now from)) }
+    ensures forth { IfOk result (λ read. (from < read.1) × (read.1 ≤ length tokens.now.tokens)) }
+{
+    let (ended, at) = item(alloc, tokens, from)?;
+    if is_barred(tokens, at, ended.1) {
+        return Err(ItemFault::CannotGoOn { at_token: at });
+    }
+    Ok((ended, at))
+}
+
+/// Whether the item before a place ends in a comma, behind which an empty run of words stands, and metadata stands at
+/// the place.
+fn is_barred(tokens: &Tokens<'_>, at: usize, ending: ItemEnding) -> bool
+    ensures { result ≡ begins (barred_behind ending) (left_from tokens.now at) }
+{
+    match next(tokens, at) {
+        Some((kind, _)) => ends_in_comma(ending) && kind == TokenKind::Metadata,
+        None => false,
+    }
+}
+
+/// Whether an item ends in a comma, behind which an empty run of words stands.
 fn ends_in_comma(ending: ItemEnding) -> bool
     ensures { result ≡ ends_in_comma ending }
 {
