@@ -2,4 +2,5 @@ pub mod ItemReaders
 pub mod ItemTurns
 pub mod ItemsRead
 pub mod AllItems
+pub mod ItemsLoop
 pub mod Refusals
