@@ -4,3 +4,4 @@ pub mod ItemsRead
 pub mod AllItems
 pub mod ItemsLoop
 pub mod Refusals
+pub mod ReadRefusals

@@ -1,8 +1,9 @@
 //! A module from the bytes of its text.
 
-ghost use Rattle.std.specs.Prelude.{IfOk, IfErr};
-ghost use Rattle.ir_grammar.specs.Spelled.{Spells};
-ghost use Rattle.ir_modules.specs.ModuleReading.{IsFaultOf};
+ghost use Rattle.std.specs.Prelude.{◌≡◌, IfOk, IfErr, drop};
+ghost use Rattle.ir_lex.specs.Tokenized.{placed};
+ghost use Rattle.ir_grammar.specs.Spelled.{Spells, refused_at};
+ghost use Rattle.ir_modules.specs.ModuleReading.{IsFaultOf, IsRefusedAt};
 
 use crate::fault::ReadFault;
 use crate::items::read_items;
@@ -15,8 +16,8 @@ use std::alloc::Global;
 
 /// The module that the bytes spell.
 ///
-/// `NotInGrammar` and `Unsupported` come exactly where they spell none, at the first token with which no module goes
-/// on, or where the tokens end before the bytes do.
+/// `NotInGrammar` and `Unsupported` come only where they spell none: at the first token with which no module goes on, or
+/// where all tokens end; `Unsupported` where what stands there is left out by name.
 pub fn read_module(alloc: Global, bytes: &[u8]) -> Result<Module, ReadFault>
     ensures spells { IfOk result (λ m. Spells bytes.now m) }
     ensures fault { IfErr result (λ fault. IsFaultOf bytes.now fault) }
@@ -35,17 +36,25 @@ pub fn read_module(alloc: Global, bytes: &[u8]) -> Result<Module, ReadFault>
     Ok(numbered(alloc, &tokens, items)?)
 }
 
-/// The refusal of a text at a token, or where the tokens end.
-fn refusal(alloc: Global, tokens: &Tokens<'_>, at_token: usize, end: usize) -> ReadFault {
-    let Ok(named) = left_out(alloc, tokens, at_token) else {
-        return ReadFault::OutOfMemory;
-    };
-    if let Some((number, at)) = named {
-        return ReadFault::Unsupported { number, at };
+/// The refusal of a text at a token, or, where there is none, where the tokens end.
+fn refusal(alloc: Global, tokens: &Tokens<'_>, at_token: usize, end: usize) -> ReadFault
+    ensures { IsRefusedAt tokens.now at_token end → IsFaultOf tokens.now.bytes result }
+{
+    match left_out(alloc, tokens, at_token) {
+        Ok(Some((number, at))) => ReadFault::Unsupported { number, at },
+        Ok(None) => ReadFault::NotInGrammar {
+            at: place(tokens, at_token, end),
+        },
+        Err(_) => ReadFault::OutOfMemory,
     }
-    let at = match tokens.get(at_token) {
+}
+
+/// The first byte of a token, or, where there is none, the place where the tokens end.
+fn place(tokens: &Tokens<'_>, at_token: usize, end: usize) -> usize
+    ensures { result ≡ refused_at (drop at_token (placed tokens.now)) end }
+{
+    match tokens.get(at_token) {
         Some(token) => token.from,
         None => end,
-    };
-    ReadFault::NotInGrammar { at }
+    }
 }
