@@ -5,3 +5,4 @@ pub mod AllItems
 pub mod ItemsLoop
 pub mod Refusals
 pub mod ReadRefusals
+pub mod OneModule

@@ -1,9 +1,10 @@
-use Rattle.std.proofs.Common.{◌≡◌, ℕ, List, length, map, sym, ap, subst, arith}
-use Rattle.ir_model.specs.declared.item.Module.{Module}
+use Rattle.std.proofs.Common.{◌≡◌, ℕ, List, length, map, Err, sym, ap, subst, arith}
 use Rattle.ir_text.specs.Tokens.{Lexed}
 use Rattle.ir_lex.specs.Tokenized.{Tokenized, placed}
 use Rattle.ir_grammar.specs.Spelled.{Spells, IsNotInGrammar}
+use Rattle.ir_parts.specs.declared.fault.ItemFault.{ItemFault}
 use Rattle.ir_parts.specs.Places.{draft_of}
+use Rattle.ir_modules.specs.ItemsReading.{ReadsAll}
 use Rattle.ir_modules.specs.ModuleReading.{IsFaultOf}
 use Rattle.ir_modules.proofs.ReadRefusals.{items_refused_there, ended_before, module_spelled}
 use Rattle.ir_modules.proofs.reader.read_module.Goals as goal
@@ -18,9 +19,11 @@ returns-in-Err-CannotGoOn-clause-fault c =
     let t = c.in_ok-tokens.tokens in
     let end = c.in_ok-tokens.end in
     let same = c.in_ok-tokens.ensures.input in
+    let refused = subst (λ (fault : ItemFault). ReadsAll t (Err fault)) c.in-Err-CannotGoOn.field-0-is
+    c.in-Err-CannotGoOn.ensures.value in
     subst (λ (bytes : List ℕ). IsFaultOf bytes c.refusal.result) same (c.refusal.ensures (items_refused_there t end
-    (lexed_of t c.args.bytes.now end same c.in_ok-tokens.ensures.lexed) c.in-Err-CannotGoOn.at_token
-    c.in-Err-CannotGoOn.ensures.value.0 c.in-Err-CannotGoOn.ensures.value.1))
+    (lexed_of t c.args.bytes.now end same c.in_ok-tokens.ensures.lexed) c.in-Err-CannotGoOn.at_token refused.0
+    refused.1))
 
 pub returns-then-end-bytes-clause-fault : goal.returns-then-end-bytes-clause-fault
 returns-then-end-bytes-clause-fault c =
