@@ -1,12 +1,11 @@
 -- Items are read, each by its first token.
-use Rattle.std.proofs.Common.{◌≡◌, ℕ, suc, Bool, true, false, ◌&&◌, List, [], ◌∷◌, ◌++◌, length, drop, Option, Some, None, Err, ◌⊎◌, inl, inr, refl, sym, ap, subst, ◌∙◌, append_assoc, codes}
+use Rattle.std.proofs.Common.{◌≡◌, ℕ, suc, Bool, true, false, ◌&&◌, List, [], ◌∷◌, ◌++◌, length, drop, Option, Some, None, Err, ◌⊎◌, inl, inr, refl, sym, ap, subst, ◌∙◌, codes}
 use Rattle.std.specs.Option.{is_some}
 use Rattle.std.specs.List.{starts_with}
 use Rattle.std.specs.Prelude.{nat_eq, if◌then◌else◌}
 use Rattle.ir_model.specs.declared.function.Function.{Function}
 use Rattle.ir_model.specs.declared.item.Global_.{Global_}
 use Rattle.ir_model.specs.declared.item.Declare.{Declare}
-use Rattle.ir_model.specs.declared.item.Item.TheVariants as item
 use Rattle.ir_text.specs.declared.token.TokenKind.{TokenKind}
 use Rattle.ir_text.specs.declared.token.TokenKind.TheVariants.{Metadata}
 use Rattle.ir_text.specs.declared.token.TokenKind.TheVariants as kind
@@ -19,10 +18,10 @@ use Rattle.ir_text.specs.Mentions.{Mention}
 use Rattle.ir_grammar.specs.Functions.{SpellsFunction}
 use Rattle.ir_grammar.specs.Items.{passed_line}
 use Rattle.ir_parts.specs.declared.ending.Ending.{Ending}
-use Rattle.ir_parts.specs.Reading.{Read, made, begins, is_punctuation, is_keyword, choose}
+use Rattle.ir_parts.specs.Reading.{Read, begins, is_punctuation, is_keyword}
 use Rattle.ir_parts.specs.MetadataReading.{is_metadata_kind, is_metadata}
 use Rattle.ir_parts.specs.Runs.{goes_on, ends_run}
-use Rattle.ir_parts.proofs.Readers.{StopsAt, IsReader, Anything, mapped, chosen}
+use Rattle.ir_parts.proofs.Readers.{IsReader, Anything, mapped, chosen}
 use Rattle.ir_parts.proofs.NoneGoesOn.{refused_there}
 use Rattle.ir_parts.proofs.SingleTokens.{is_word, is_itself}
 use Rattle.ir_parts.proofs.SaidNames.{global_there, global_back}

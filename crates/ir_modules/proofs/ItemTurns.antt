@@ -1,5 +1,5 @@
 -- Items in turn are the items of a module, with what is dropped before, between and behind them.
-use Rattle.std.proofs.Common.{◌≡◌, ℕ, Bool, true, false, ◌||◌, ◌&&◌, List, [], ◌∷◌, ◌++◌, Option, Some, None, inl, inr, refl, sym, ap, subst, ◌∙◌, append_assoc}
+use Rattle.std.proofs.Common.{◌≡◌, Bool, true, false, ◌||◌, ◌&&◌, List, [], ◌∷◌, ◌++◌, Option, Some, None, inl, inr, refl, sym, ap, subst, ◌∙◌, append_assoc}
 use Rattle.std.specs.Option.{option_map}
 use Rattle.std.proofs.lemmas.List.{append-nil}
 use Rattle.ir_model.specs.declared.function.Function.{Function}
@@ -18,11 +18,10 @@ use Rattle.ir_text.specs.Sites.{Draft}
 use Rattle.ir_grammar.specs.Operations.{the_sign}
 use Rattle.ir_grammar.specs.Functions.{SpellsFunction}
 use Rattle.ir_grammar.specs.Items.{dropped_item, SpellsDraft, EndsApart, SpellsItems}
-use Rattle.ir_parts.specs.declared.ending.Ending.{Ending}
 use Rattle.ir_parts.specs.Reading.{is_punctuation}
 use Rattle.ir_parts.specs.MetadataReading.{is_metadata_kind, is_metadata, is_word_text, is_metadata_word}
 use Rattle.ir_parts.specs.Runs.{goes_on}
-use Rattle.ir_parts.proofs.Readers.{StopsAt, stops_also}
+use Rattle.ir_parts.proofs.Readers.{StopsAt}
 use Rattle.ir_parts.proofs.SingleTokens.{is_sign}
 use Rattle.ir_parts.proofs.PieceReaders.{neither_or}
 use Rattle.ir_parts.proofs.RunEnds.{ends_each}
@@ -36,7 +35,7 @@ use Rattle.ir_items.proofs.LastTokens.{comma_last, last_behind, Ends, Closes, me
 use Rattle.ir_modules.specs.declared.items.ItemEnding.{ItemEnding}
 use Rattle.ir_modules.specs.declared.items.ItemEnding.TheVariants.{Whole, Global, Declared}
 use Rattle.ir_modules.specs.ItemsReading.{Told, of_global, ends_in_comma, barred, with_draft, drafts_of}
-use Rattle.ir_modules.proofs.ItemReaders.{StopsEnding, StopsItem, SpellsTold, BeginsWith, IsOpener, begins_so}
+use Rattle.ir_modules.proofs.ItemReaders.{StopsEnding, StopsItem, SpellsTold, IsOpener, begins_so}
 
 -- ---- one item, by what it is
 

@@ -1,4 +1,4 @@
-use Rattle.std.proofs.Common.{List, Option, arith}
+use Rattle.std.proofs.Common.{Option, arith}
 use Rattle.std.proofs.lemmas.Result.{err_from_is_err_and}
 use Rattle.ir_model.specs.declared.item.Item.{Item}
 use Rattle.ir_lex.specs.Tokenized.{Tokenized}
