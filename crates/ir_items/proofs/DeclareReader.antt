@@ -1,5 +1,5 @@
 -- Declarations are read, and those that are dropped.
-use Rattle.std.proofs.Common.{◌≡◌, ℕ, Bool, true, false, ◌&&◌, if◌then◌else◌, List, [], ◌∷◌, ◌++◌, map, Option, Some, None, ◌⊎◌, inl, inr, refl, sym, ap, subst, ◌∙◌, append_assoc, codes}
+use Rattle.std.proofs.Common.{◌≡◌, ℕ, Bool, true, false, if◌then◌else◌, List, [], ◌∷◌, ◌++◌, map, Option, Some, None, ◌⊎◌, inl, inr, refl, sym, ap, subst, ◌∙◌, append_assoc, codes}
 use Rattle.ir_model.specs.declared.types.IrType.{IrType}
 use Rattle.ir_model.specs.declared.types.IrType.TheVariants.{Void, Int, Ptr, Array}
 use Rattle.ir_model.specs.declared.item.DeclaredParam.{DeclaredParam}
@@ -12,9 +12,9 @@ use Rattle.ir_text.specs.Language.{Language, ◌·◌, one, keyword, punctuation
 use Rattle.ir_text.specs.Written.{IsGlobal}
 use Rattle.ir_text.specs.Said.{said_global}
 use Rattle.ir_text.specs.Types.{IsReturned, SpellsTypeOf}
-use Rattle.ir_text.specs.PassedOn.{passed_text, IsPassedOn, in_parentheses, metadata_pairs}
-use Rattle.ir_grammar.specs.Functions.{IsDroppedCallee, is_dropped_name}
-use Rattle.ir_grammar.specs.Items.{SpellsDeclaredParam, ListedByCommas, SpellsDeclare}
+use Rattle.ir_text.specs.PassedOn.{passed_text, in_parentheses, metadata_pairs}
+use Rattle.ir_grammar.specs.Functions.{is_dropped_name}
+use Rattle.ir_grammar.specs.Items.{SpellsDeclaredParam, ListedByCommas}
 use Rattle.ir_parts.specs.declared.ending.Ending.{Ending}
 use Rattle.ir_parts.specs.declared.ending.Run.{Run}
 use Rattle.ir_parts.specs.Reading.{◌⊗◌, made, begins, one_at}
@@ -33,7 +33,7 @@ use Rattle.ir_parts.proofs.RunReader.{run_reads}
 use Rattle.ir_parts.proofs.WordsReader.{words_read}
 use Rattle.ir_parts.proofs.RunEnds.{type_ends, words_followed}
 use Rattle.ir_parts.proofs.ListReaders.{AnyWithCommas}
-use Rattle.ir_items.specs.DeclaredReading.{declared_param_at, declared_params_at, declared_of, one_param_at, some_params_at, no_params_at, closed_params_at, taken_params_at, DeclareHead, declare_head_at, dropped_declare_at, declare_of, kept_declare_at, behind_head_at, declare_at}
+use Rattle.ir_items.specs.DeclaredReading.{declared_param_at, declared_params_at, declared_of, one_param_at, some_params_at, no_params_at, closed_params_at, taken_params_at, DeclareHead, declare_head_at, dropped_declare_at, declare_of, kept_declare_at, behind_head_at, declare_at, SpellsDeclareIfAny}
 use Rattle.ir_items.proofs.RunEnds.{run_begins}
 use Rattle.ir_items.proofs.GlobalReaders.{global_names}
 use Rattle.ir_items.proofs.DeclaredReaders.{SpellsParam, declared_params_read}
@@ -233,16 +233,6 @@ unfolding declare_at
 ended_declares = then_reads behind_head_at SpellsBehind StopsDeclare head_reads behind_reads
 
 -- ---- the same as in the grammar
-
--- a declaration that is dropped
-abbrev pub dropped_declare : Language
-dropped_declare = keyword (codes "declare") · metadata_pairs · IsPassedOn
-    · (λ ts. (ret : IrType) × SpellsTypeOf IsReturned ret ts)
-    · one IsDroppedCallee · in_parentheses · IsPassedOn
-
-abbrev pub SpellsDeclareIfAny : Option Declare → Language
-SpellsDeclareIfAny None = dropped_declare
-SpellsDeclareIfAny (Some d) = SpellsDeclare d
 
 regroup : (a b c d e rest : List Lexeme) → (a ++ (b ++ (c ++ (d ++ e)))) ++ rest ≡ a ++ (b ++ (c ++ (d ++ (e ++ rest))))
 regroup a b c d e rest = simp append_assoc

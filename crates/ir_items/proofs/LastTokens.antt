@@ -1,5 +1,5 @@
 -- Which sentences end in a comma: of items only globals do, and only behind an empty run of words.
-use Rattle.std.proofs.Common.{◌≡◌, ℕ, Bool, true, false, ◌&&◌, List, [], ◌∷◌, ◌++◌, Option, Some, None, inl, inr, refl, sym, ap, subst, ◌∙◌, append_assoc, codes}
+use Rattle.std.proofs.Common.{◌≡◌, ℕ, Bool, true, false, ◌&&◌, List, [], ◌∷◌, ◌++◌, Option, Some, None, inl, inr, refl, sym, ap, ◌∙◌, append_assoc, codes}
 use Rattle.std.proofs.lemmas.List.{append-nil}
 use Rattle.std.specs.Str.{bytes_eq}
 use Rattle.ir_model.specs.declared.types.IrType.{IrType}
@@ -7,7 +7,6 @@ use Rattle.ir_model.specs.declared.types.IrType.TheVariants.{Void, Int, Ptr, Arr
 use Rattle.ir_model.specs.declared.op.Operand.{Operand}
 use Rattle.ir_model.specs.declared.op.Operand.TheVariants as operand
 use Rattle.ir_model.specs.declared.item.Init.{Init}
-use Rattle.ir_model.specs.declared.item.Init.TheVariants as init
 use Rattle.ir_model.specs.declared.item.Global_.{Global_}
 use Rattle.ir_model.specs.declared.item.Declare.{Declare}
 use Rattle.ir_text.specs.declared.token.TokenKind.{TokenKind}
@@ -34,11 +33,11 @@ use Rattle.ir_items.specs.declared.global_ending.Typed.{Typed}
 use Rattle.ir_items.specs.declared.global_ending.Tail.{Tail}
 use Rattle.ir_items.specs.TailReading.{is_empty_run, Runs, ending_of_runs}
 use Rattle.ir_items.specs.DroppedReading.{metadata_item}
+use Rattle.ir_items.specs.DeclaredReading.{dropped_declare}
 use Rattle.ir_items.proofs.RunEnds.{run_begins}
 use Rattle.ir_items.proofs.TailReaders.{SpellsBare}
-use Rattle.ir_items.proofs.TailReader.{Attached, SpellsRuns, SpellsEndedTail}
-use Rattle.ir_items.proofs.GlobalReaders.{SpellsName, SpellsTyped, SpellsValued, SpellsDescribed, SpellsEnded}
-use Rattle.ir_items.proofs.DeclareReader.{dropped_declare}
+use Rattle.ir_items.proofs.TailReader.{Attached, SpellsRuns}
+use Rattle.ir_items.proofs.GlobalReaders.{SpellsName, SpellsTyped, SpellsEnded}
 
 -- ---- the last token
 

@@ -19,6 +19,7 @@ pub mod DroppedReaders
 pub mod DeclaredReaders
 pub mod MadeLists
 pub mod DeclareReader
+pub mod DeclareTells
 pub mod LastTokens
 pub mod TailLoop
 pub mod GlobalSpelled

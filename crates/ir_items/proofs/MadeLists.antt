@@ -1,7 +1,7 @@
 -- Reading a list of what is made of things is reading the things, and making the list of it.
-use Rattle.std.proofs.Common.{◌≡◌, ℕ, zero, suc, Bool, true, false, List, [], ◌∷◌, length, map, Result, Ok, Err, inl, inr, refl, sym, ap, ◌∙◌}
+use Rattle.std.proofs.Common.{◌≡◌, ℕ, zero, suc, Bool, false, List, [], ◌∷◌, length, map, Result, Ok, Err, inl, inr, refl, sym, ap, ◌∙◌}
 use Rattle.ir_text.specs.Tokens.{Lexeme}
-use Rattle.ir_parts.specs.Reading.{Read, go_on, ◌>>=◌, pure, ◌⊗◌, ◌▷◌, ◌◁◌, made, begins, is_punctuation, punctuation_at, choose, repeat_at, repeated_at}
+use Rattle.ir_parts.specs.Reading.{Read, go_on, ◌>>=◌, pure, ◌▷◌, ◌◁◌, made, begins, is_punctuation, punctuation_at, repeat_at, repeated_at}
 use Rattle.ir_parts.specs.ListReading.{with_commas_at, listed_at}
 use Rattle.ir_parts.proofs.Readers.{chosen_first, chosen_other, either}
 

@@ -3,8 +3,12 @@ use Rattle.std.specs.Prelude.{ℕ, if◌then◌else◌, List, [], Option, Some, 
 use Rattle.ir_model.specs.declared.types.IrType.{IrType}
 use Rattle.ir_model.specs.declared.item.DeclaredParam.{DeclaredParam}
 use Rattle.ir_model.specs.declared.item.Declare.{Declare}
+use Rattle.ir_text.specs.Language.{Language, ◌·◌, one, keyword}
 use Rattle.ir_text.specs.Said.{said_global}
-use Rattle.ir_grammar.specs.Functions.{is_dropped_name}
+use Rattle.ir_text.specs.Types.{IsReturned, SpellsTypeOf}
+use Rattle.ir_text.specs.PassedOn.{IsPassedOn, in_parentheses, metadata_pairs}
+use Rattle.ir_grammar.specs.Functions.{IsDroppedCallee, is_dropped_name}
+use Rattle.ir_grammar.specs.Items.{SpellsDeclare}
 use Rattle.ir_parts.specs.declared.ending.Ending.{Ending}
 use Rattle.ir_parts.specs.declared.ending.Run.{Run}
 use Rattle.ir_parts.specs.Reading.{Read, ◌>>=◌, pure, ◌⊗◌, ◌▷◌, ◌◁◌, made, one_at, is_punctuation, keyword_at, punctuation_at, choose}
@@ -74,3 +78,15 @@ behind_head_at head ts = if is_dropped_name head.1.1 then dropped_declare_at ts 
 -- a declaration, or none where it is dropped, and how its last run of words ends
 unfoldable pub declare_at : Read (Option Declare × Ending)
 declare_at = declare_head_at >>= behind_head_at
+
+-- ---- the language
+
+-- a declaration that is dropped
+abbrev pub dropped_declare : Language
+dropped_declare = keyword (codes "declare") · metadata_pairs · IsPassedOn
+    · (λ ts. (ret : IrType) × SpellsTypeOf IsReturned ret ts)
+    · one IsDroppedCallee · in_parentheses · IsPassedOn
+
+abbrev pub SpellsDeclareIfAny : Option Declare → Language
+SpellsDeclareIfAny None = dropped_declare
+SpellsDeclareIfAny (Some d) = SpellsDeclare d

@@ -3,7 +3,8 @@
 ghost use Rattle.std.specs.Prelude.{◌≡◌, ◌<◌, ◌≤◌, length, IfOk};
 ghost use Rattle.ir_grammar.specs.Functions.{is_dropped_name};
 ghost use Rattle.ir_parts.specs.Reading.{left_from, Reads};
-ghost use Rattle.ir_items.specs.DeclaredReading.{one_param_at, some_params_at, next_param_at, no_params_at, closed_params_at, taken_params_at, declare_head_at, dropped_declare_at, kept_declare_at, behind_head_at, declare_at};
+ghost use Rattle.ir_parts.specs.Sentences.{Tells};
+ghost use Rattle.ir_items.specs.DeclaredReading.{one_param_at, some_params_at, next_param_at, no_params_at, closed_params_at, taken_params_at, declare_head_at, dropped_declare_at, kept_declare_at, behind_head_at, declare_at, SpellsDeclareIfAny};
 
 use ir_lex::Tokens;
 use ir_model::{Declare, DeclaredParam, IrType, Text};
@@ -27,6 +28,7 @@ pub fn read_declare(
     from: usize,
 ) -> Result<((Option<Declare>, Ending), usize), ItemFault>
     requires { from ≤ length tokens.now.tokens }
+    ensures sentence { Tells (λ ended. SpellsDeclareIfAny ended.0) tokens.now from result }
     ensures value { Reads tokens.now result (declare_at (left_from tokens.now from)) }
     ensures forth { IfOk result (λ read. (from < read.1) × (read.1 ≤ length tokens.now.tokens)) }
 {

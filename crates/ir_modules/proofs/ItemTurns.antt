@@ -30,7 +30,8 @@ use Rattle.ir_items.specs.declared.global_ending.GlobalEnding.{GlobalEnding}
 use Rattle.ir_items.specs.declared.global_ending.GlobalEnding.TheVariants as global
 use Rattle.ir_items.specs.TailReading.{is_empty_run}
 use Rattle.ir_items.proofs.GlobalSpelled.{global_of_ended, ended_of_global}
-use Rattle.ir_items.proofs.DeclareReader.{SpellsDeclareIfAny, declare_there, declare_back}
+use Rattle.ir_items.specs.DeclaredReading.{SpellsDeclareIfAny}
+use Rattle.ir_items.proofs.DeclareReader.{declare_there, declare_back}
 use Rattle.ir_items.proofs.LastTokens.{comma_last, last_behind, Ends, Closes, metadata_item_closes, line_closes, dropped_closes, declare_closes, ends_empty, global_last}
 use Rattle.ir_modules.specs.declared.items.ItemEnding.{ItemEnding}
 use Rattle.ir_modules.specs.declared.items.ItemEnding.TheVariants.{Whole, Global, Declared}
