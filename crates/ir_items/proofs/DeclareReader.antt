@@ -269,8 +269,8 @@ declare_there ended ts (
 ) = by behind
   where
     all : ts ≡ a ++ (b ++ (c ++ (d ++ (e ++ rest))))
-    all = parts ∙ (ap (λ (us : List Lexeme). us ++ rest) (a_parts ∙ ap (λ (behind_a : List Lexeme). a ++ behind_a) (b_parts
-        ∙ ap (λ (bs : List Lexeme). b ++ bs) (c_parts ∙ ap (λ (cs : List Lexeme). c ++ cs) d_parts)))
+    all = parts ∙ (ap (λ (us : List Lexeme). us ++ rest) (a_parts ∙ ap (λ (behind_a : List Lexeme). a ++ behind_a)
+        (b_parts ∙ ap (λ (bs : List Lexeme). b ++ bs) (c_parts ∙ ap (λ (cs : List Lexeme). c ++ cs) d_parts)))
         ∙ regroup a b c d e rest)
 
     by : SpellsBehind head ended rest → SpellsDeclareIfAny ended.0 ts
@@ -306,7 +306,26 @@ declare_there ended ts (
             ),
           ),
         )
-    by (inr (is, (p, says, (os, os_rest, o_parts, opening, (qs, ws, q_parts, (ls, ends, l_parts, listed, closing), after))))) =
+    by (inr (
+      is,
+      (
+        p,
+        says,
+        (
+          os,
+          os_rest,
+          o_parts,
+          opening,
+          (
+            qs,
+            ws,
+            q_parts,
+            (ls, ends, l_parts, listed, closing),
+            after,
+          ),
+        ),
+      ),
+    )) =
         let behind : os_rest ≡ ls ++ (ends ++ ws) =
         q_parts ∙ (ap (λ (qs : List Lexeme). qs ++ ws) l_parts ∙ append_assoc ls ends ws) in
         subst (λ (ended : Option Declare × Ending). SpellsDeclareIfAny ended.0 ts) (sym says) (

@@ -62,7 +62,8 @@ last_of_both us (t ∷ vs) e = last_behind us t vs
 abbrev pub Closes : Language → Type 0
 Closes A = (ts : List Lexeme) → A ts → comma_last ts ≡ false
 
-pub no_comma : (t : Lexeme) (kind : TokenKind) → t.kind ≡ kind → is_sign_kind 44 kind ≡ false → is_punctuation 44 t ≡ false
+pub no_comma : (t : Lexeme) (kind : TokenKind) → t.kind ≡ kind → is_sign_kind 44 kind ≡ false
+    → is_punctuation 44 t ≡ false
 no_comma t kind is other =
     ap (λ kind. is_sign_kind 44 kind && bytes_eq t.text (44 ∷ [])) is
     ∙ ap (λ b. b && bytes_eq t.text (44 ∷ [])) other
@@ -320,7 +321,8 @@ attached_last us ts l =
     let all : ts ≡ sign 44 ∷ l.1 = l.2 ∙ ap (λ (us : List Lexeme). us ++ l.1) l.3 in
     let inner = l.4 in
     let first : l.1 ≡ inner.3.3.0 ∷ (inner.3.1 ++ inner.1) =
-    inner.2 ∙ ap (λ (us : List Lexeme). us ++ inner.1) (inner.3.2 ∙ ap (λ (us : List Lexeme). us ++ inner.3.1) inner.3.3.1) in
+    inner.2 ∙ ap (λ (us : List Lexeme). us ++ inner.1)
+    (inner.3.2 ∙ ap (λ (us : List Lexeme). us ++ inner.3.1) inner.3.3.1) in
     ap (λ (ts : List Lexeme). comma_last (us ++ ts)) all
     ∙ (last_behind us (sign 44) l.1
     ∙ (ap (λ (us : List Lexeme). comma_last (sign 44 ∷ us)) first

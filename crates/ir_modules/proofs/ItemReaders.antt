@@ -129,8 +129,10 @@ abbrev pub IsLineWord : Lexeme → Type 0
 IsLineWord t = (t ≡ word (codes "source_filename")) ⊎ (t ≡ word (codes "target")) ⊎ (t ≡ word (codes "attributes"))
 
 passed_first : (ts : List Lexeme) → passed_line ts → BeginsWith IsLineWord ts
-passed_first ts (inl l) = (word (codes "source_filename"), l.1, l.2 ∙ ap (λ (us : List Lexeme). us ++ l.1) l.3, inl refl)
-passed_first ts (inr (inl l)) = (word (codes "target"), l.1, l.2 ∙ ap (λ (us : List Lexeme). us ++ l.1) l.3, inr (inl refl))
+passed_first ts (inl l) =
+    (word (codes "source_filename"), l.1, l.2 ∙ ap (λ (us : List Lexeme). us ++ l.1) l.3, inl refl)
+passed_first ts (inr (inl l)) =
+    (word (codes "target"), l.1, l.2 ∙ ap (λ (us : List Lexeme). us ++ l.1) l.3, inr (inl refl))
 passed_first ts (inr (inr (inl l))) =
     (word (codes "target"), l.1, l.2 ∙ ap (λ (us : List Lexeme). us ++ l.1) l.3, inr (inl refl))
 passed_first ts (inr (inr (inr l))) =
@@ -170,8 +172,8 @@ same_word : (text : List ℕ) (t : Lexeme) → t ≡ word text → is_keyword te
 same_word text t is = ap (is_keyword text) is ∙ is_itself text
 
 -- a token that begins no line
-line_word : (test : Lexeme → Bool) → test (word (codes "source_filename")) ≡ false → test (word (codes "target")) ≡ false
-    → test (word (codes "attributes")) ≡ false → (t : Lexeme) → IsLineWord t → test t ≡ false
+line_word : (test : Lexeme → Bool) → test (word (codes "source_filename")) ≡ false
+    → test (word (codes "target")) ≡ false → test (word (codes "attributes")) ≡ false → (t : Lexeme) → IsLineWord t → test t ≡ false
 line_word test source target attributes t (inl is) = ap test is ∙ source
 line_word test source target attributes t (inr (inl is)) = ap test is ∙ target
 line_word test source target attributes t (inr (inr is)) = ap test is ∙ attributes
@@ -251,10 +253,10 @@ module _ (functions : IsTeller function_at SpellsFunction Anything) where
   defined_or_lines : IsReader defined_or_line_at DefinedOrLine StopsItem
   unfolding defined_or_line_at
   defined_or_lines = chosen (is_keyword (codes "define")) function_items line_items
-      (λ told ts l. passes (is_keyword (codes "define")) (λ t. t ≡ word (codes "define")) (same_word (codes "define")) ts
-      (function_first told ts l))
-      (λ told taken rest l stops. fails (is_keyword (codes "define")) IsLineWord (line_word (is_keyword (codes "define"))
-      refl refl refl) taken rest (line_first told taken l))
+      (λ told ts l. passes (is_keyword (codes "define")) (λ t. t ≡ word (codes "define"))
+      (same_word (codes "define")) ts (function_first told ts l))
+      (λ told taken rest l stops. fails (is_keyword (codes "define")) IsLineWord
+      (line_word (is_keyword (codes "define")) refl refl refl) taken rest (line_first told taken l))
       (word_taken function_items (codes "define") function_first)
 
   defined_other : (test : Lexeme → Bool) → test (word (codes "define")) ≡ false
@@ -269,8 +271,8 @@ module _ (functions : IsTeller function_at SpellsFunction Anything) where
   worded_items : IsReader worded_item_at WordedItem StopsItem
   unfolding worded_item_at
   worded_items = chosen (is_keyword (codes "declare")) declare_items defined_or_lines
-      (λ told ts l. passes (is_keyword (codes "declare")) (λ t. t ≡ word (codes "declare")) (same_word (codes "declare"))
-      ts (declare_first told ts l))
+      (λ told ts l. passes (is_keyword (codes "declare")) (λ t. t ≡ word (codes "declare"))
+      (same_word (codes "declare")) ts (declare_first told ts l))
       (λ told taken rest l stops. defined_other (is_keyword (codes "declare")) refl refl refl refl told taken rest l)
       (word_taken declare_items (codes "declare") declare_first)
 
@@ -334,8 +336,8 @@ begins_so told ts (inr (inl l)) =
     with_opener (λ t. t.kind ≡ Metadata) (λ t is. (metadata_ends t is, no_comma t Metadata is refl)) ts
     (metadata_first told ts l)
 begins_so told ts (inr (inr (inl l))) =
-    with_opener (λ t. t ≡ word (codes "declare")) (word_opener (codes "declare") (opening_ends (codes "declare") refl)) ts
-    (declare_first told ts l)
+    with_opener (λ t. t ≡ word (codes "declare"))
+    (word_opener (codes "declare") (opening_ends (codes "declare") refl)) ts (declare_first told ts l)
 begins_so told ts (inr (inr (inr (inl l)))) =
     with_opener (λ t. t ≡ word (codes "define")) (word_opener (codes "define") (opening_ends (codes "define") refl)) ts
     (function_first told ts l)

@@ -52,11 +52,13 @@ as_declare (Some declare) ts l = (refl, l)
 
 pub item_there : (told : Told) (ts : List Lexeme) → SpellsTold told ts → SpellsIfAny told.0.0 told.1 ts
 item_there told ts (inl (ended, says, l)) =
-    subst (λ (told : Told). SpellsIfAny told.0.0 told.1 ts) (sym says) (refl, global_of_ended ended.0 ts (ended, refl, l))
+    subst (λ (told : Told). SpellsIfAny told.0.0 told.1 ts) (sym says)
+    (refl, global_of_ended ended.0 ts (ended, refl, l))
 item_there told ts (inr (inl (x, says, l))) =
     subst (λ (told : Told). SpellsIfAny told.0.0 told.1 ts) (sym says) (refl, inl l)
 item_there told ts (inr (inr (inl (ended, says, l)))) =
-    subst (λ (told : Told). SpellsIfAny told.0.0 told.1 ts) (sym says) (as_declare ended.0 ts (declare_there ended ts l))
+    subst (λ (told : Told). SpellsIfAny told.0.0 told.1 ts) (sym says)
+    (as_declare ended.0 ts (declare_there ended ts l))
 item_there told ts (inr (inr (inr (inl (f, says, l))))) =
     subst (λ (told : Told). SpellsIfAny told.0.0 told.1 ts) (sym says) l
 item_there told ts (inr (inr (inr (inr (text, says, l))))) =
@@ -84,7 +86,8 @@ item_back (Some (item.PassedOn text)) ms ts l =
     silent_ending (Some (item.PassedOn text)) ms ts l.0 (Whole, inr (inr (inr (inr (text, refl, l.1)))))
 item_back (Some (item.Global g)) ms ts l =
     let ended = ended_of_global g ts l.1 in
-    silent_ending (Some (item.Global g)) ms ts l.0 (Global ended.0.1, inl (ended.0, says ended.0.1 ended.0.0 ended.1, ended.2))
+    silent_ending (Some (item.Global g)) ms ts l.0
+    (Global ended.0.1, inl (ended.0, says ended.0.1 ended.0.0 ended.1, ended.2))
   where
     says : (ending : GlobalEnding) (other : Global_) → other ≡ g
         → ◌≡◌ {A = Told} ((Some (item.Global g), Global ending), []) (of_global (other, ending))
@@ -248,7 +251,8 @@ dropped_first drafts us vs dropped l =
         vs,
         refl,
         ended.1,
-        stops_there told vs (turns_open l.0 vs l.2) (free_at told vs (sym (item_last told us ended.1) ∙ closes us dropped)),
+        stops_there told vs (turns_open l.0 vs l.2)
+            (free_at told vs (sym (item_last told us ended.1) ∙ closes us dropped)),
         l.2,
       ),
     )
@@ -265,8 +269,8 @@ all_dropped_first drafts us vs (more front others parts first rest) l =
     (sym (ap (λ (us : List Lexeme). us ++ vs) parts ∙ append_assoc front others vs))
     (dropped_first drafts front (others ++ vs) first (all_dropped_first drafts others vs rest l))
 
-draft_first : (draft : Draft) (drafts : List Draft) (own behind : List Lexeme) → SpellsDraft draft.item draft.mentions own
-    → EndsApart own behind → InTurns drafts behind → InTurns (draft ∷ drafts) (own ++ behind)
+draft_first : (draft : Draft) (drafts : List Draft) (own behind : List Lexeme)
+    → SpellsDraft draft.item draft.mentions own → EndsApart own behind → InTurns drafts behind → InTurns (draft ∷ drafts) (own ++ behind)
 draft_first draft drafts own behind spelled ends l =
     let ended = item_back (Some draft.item) draft.mentions own spelled in
     let told : Told = ((Some draft.item, ended.0), draft.mentions) in (

@@ -16,8 +16,8 @@ use std::alloc::Global;
 
 /// The module that the bytes spell.
 ///
-/// `NotInGrammar` and `Unsupported` come only where they spell none: at the first token with which no module goes on, or
-/// where all tokens end; `Unsupported` where what stands there is left out by name.
+/// `NotInGrammar` and `Unsupported` come only where they spell none: at the first token with which no module goes on,
+/// or where all tokens end; `Unsupported` where what stands there is left out by name.
 pub fn read_module(alloc: Global, bytes: &[u8]) -> Result<Module, ReadFault>
     ensures spells { IfOk result (λ m. Spells bytes.now m) }
     ensures fault { IfErr result (λ fault. IsFaultOf bytes.now fault) }
