@@ -39,7 +39,7 @@ a_name : IsGlobal (codes "a") (global (codes "a"))
 unfolding is_word begins_word is_letter
 a_name = (refl, codes "a", refl, inl (refl, refl))
 
-global_names : IsReader (one_at said_global) (λ name. one (IsGlobal name)) Anything
+pub global_names : IsReader (one_at said_global) (λ name. one (IsGlobal name)) Anything
 global_names = one_reads said_global IsGlobal global_there global_back (codes "a") (global (codes "a")) a_name
 
 abbrev pub SpellsName : List ℕ → Language

@@ -17,5 +17,9 @@ pub mod FineLayouts
 pub mod LineReaders
 pub mod DroppedReaders
 pub mod DeclaredReaders
+pub mod MadeLists
+pub mod DeclareReader
+pub mod DeclareTells
+pub mod LastTokens
 pub mod TailLoop
 pub mod GlobalSpelled

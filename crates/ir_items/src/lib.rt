@@ -2,6 +2,7 @@
 //! dropped or passed on.
 #![tactic(auto)]
 
+mod declare;
 mod dropped;
 mod global;
 mod global_ending;
@@ -10,6 +11,7 @@ mod layout;
 mod lines;
 mod literal;
 
+pub use declare::read_declare;
 pub use dropped::skip_metadata_item;
 pub use global::{ended_global, read_global};
 pub use global_ending::GlobalEnding;

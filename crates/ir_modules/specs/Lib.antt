@@ -1,0 +1,2 @@
+pub mod ItemsReading
+pub mod ModuleReading
