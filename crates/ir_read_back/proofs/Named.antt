@@ -1,5 +1,5 @@
 -- What is shown of ids, and the names that it says.
-use Rattle.std.proofs.Common.{ℕ, ◌^◌, ◌<◌, List, [], ◌∷◌, unwrap_or, slice_get, Some}
+use Rattle.std.proofs.Common.{ℕ, ◌^◌, ◌<◌, List, [], unwrap_or, slice_get, Some}
 use Rattle.ir_text.specs.Written.{Name, Text, Number, Says, SaysGlobal}
 use Rattle.ir_text.specs.Mentions.{Mention}
 use Rattle.ir_text.specs.Mentions as mention

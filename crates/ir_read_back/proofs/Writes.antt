@@ -1,14 +1,9 @@
 -- Texts that are tokens of a production, and how they are put together.
-use Rattle.std.proofs.Common.{◌≡◌, ℕ, List, [], ◌∷◌, ◌++◌, IsTrue, refl, sym, subst, append_assoc}
-use Rattle.ir_text.specs.Bytes.{is_sign}
-use Rattle.ir_text.specs.Names.{is_word}
+use Rattle.std.proofs.Common.{ℕ, List, [], ◌∷◌, ◌++◌, refl, subst, append_assoc}
 use Rattle.ir_text.specs.Tokens.{Lexeme, AreLexemes}
-use Rattle.ir_text.specs.Listed.{word, sign}
-use Rattle.ir_text.specs.Language.{Language}
-use Rattle.ir_text.specs.Mentions.{Mention, Mentioning, ◌⊙◌, silent}
-use Rattle.ir_grammar.specs.Operations.{the_word, the_sign}
+use Rattle.ir_text.specs.Mentions.{Mention, Mentioning, ◌⊙◌}
 use Rattle.ir_lex.proofs.Plain.{Stops}
-use Rattle.ir_read_back.proofs.Steps.{behind_space, behind_word, behind_sign}
+use Rattle.ir_read_back.proofs.Steps.{behind_space}
 use Rattle.ir_read_back.proofs.Real.{IsReal, AreReal, each-left, each-right}
 
 -- ---- what may stand behind a text
