@@ -1,9 +1,17 @@
 -- Texts that are tokens of a production, and how they are put together.
-use Rattle.std.proofs.Common.{ℕ, List, [], ◌∷◌, ◌++◌, refl, subst, append_assoc}
-use Rattle.ir_text.specs.Tokens.{Lexeme, AreLexemes}
-use Rattle.ir_text.specs.Mentions.{Mention, Mentioning, ◌⊙◌}
-use Rattle.ir_lex.proofs.Plain.{Stops}
-use Rattle.ir_read_back.proofs.Steps.{behind_space}
+use Rattle.std.proofs.Common.{◌≡◌, ℕ, List, [], ◌∷◌, ◌++◌, IsTrue, refl, subst, append_assoc, codes}
+use Rattle.ir_text.specs.Bytes.{is_sign}
+use Rattle.ir_text.specs.Names.{is_word}
+use Rattle.ir_text.specs.declared.token.TokenKind.{TokenKind}
+use Rattle.ir_text.specs.declared.token.TokenKind.TheVariants.{Word}
+use Rattle.ir_text.specs.Tokens.{Lexeme, AreLexemes, IsTokenAt}
+use Rattle.ir_text.specs.Listed.{sign}
+use Rattle.ir_text.specs.Language.{Language}
+use Rattle.ir_text.specs.Mentions.{Mention, Mentioning, ◌⊙◌, silent}
+use Rattle.ir_grammar.specs.Operations.{the_word, the_sign, the_comma}
+use Rattle.ir_lex.proofs.Plain.{Stops, Word-token}
+use Rattle.ir_read_back.proofs.Steps.{behind_space, behind_token, behind_sign}
+use Rattle.ir_read_back.proofs.Words.{comma_is_sign}
 use Rattle.ir_read_back.proofs.Real.{IsReal, AreReal, each-left, each-right}
 
 -- ---- what may stand behind a text
@@ -114,5 +122,79 @@ behind_a_space part = record {
 pub space_then : {Behind : List ℕ → Type 0} {A A' B B' : Mentioning} {ms ns : List Mention} {a b : List ℕ}
     → Rewrites Stops A A' ms a
     → Rewrites Behind B B' ns b
-    → Rewrites Behind (A ⊙ B) (A' ⊙ B') (ms ++ ns) (a ++ 32 ∷ b)
+    → Rewrites Behind (A ⊙ B) (A' ⊙ B') (ms ++ ns) (a ++ (32 ∷ b))
 space_then first second = and_then (λ rest behind. refl) first (behind_a_space second)
+
+-- ---- single tokens
+
+-- One token, which stands before stops.
+pub token_writes : {A : Mentioning} {ms : List Mention} (kind : TokenKind) (text : List ℕ)
+    → A ms (record { kind = kind; text = text } ∷ [])
+    → ((next : List ℕ) → Stops next → IsTokenAt kind text next)
+    → Writes Stops A ms text
+token_writes kind text spelled token = record {
+  lexemes = record { kind = kind; text = text } ∷ [];
+  spelled = spelled;
+  lexed = λ rest others stops tokens. behind_token (token rest stops) tokens;
+}
+
+-- What is written of a production, whatever stood there.
+pub always : {Behind : List ℕ → Type 0} {Old New : Mentioning} {ms : List Mention} {text : List ℕ}
+    → Writes Behind New ms text
+    → Rewrites Behind Old New ms text
+always all = record { writes = λ old ts spelled real. all }
+
+pub word_writes : (w : List ℕ) → IsTrue (is_word w) → Writes Stops (the_word w) [] w
+word_writes w h = token_writes Word w (refl, refl) (λ next stops. Word-token w next h stops)
+
+pub sign_writes : (b : ℕ) → IsTrue (is_sign b) → Writes Anything (the_sign b) [] (b ∷ [])
+sign_writes b h = record {
+  lexemes = sign b ∷ [];
+  spelled = (refl, refl);
+  lexed = λ rest others any tokens. behind_sign h tokens;
+}
+
+-- a word at the end, and one with a space behind it
+pub word_ends : {Old : Mentioning} (w : List ℕ) → IsTrue (is_word w) → Rewrites Stops Old (the_word w) [] w
+word_ends w h = always (word_writes w h)
+
+pub word_then : {Behind : List ℕ → Type 0} {A B B' : Mentioning} {ns : List Mention} {b : List ℕ} (w : List ℕ)
+    → IsTrue (is_word w)
+    → Rewrites Behind B B' ns b
+    → Rewrites Behind (A ⊙ B) (the_word w ⊙ B') ns (w ++ (32 ∷ b))
+word_then w h second = space_then (word_ends w h) second
+
+-- a sign at the end, and one with anything behind it
+pub sign_ends : {Behind : List ℕ → Type 0} {Old : Mentioning} (b : ℕ) → IsTrue (is_sign b)
+    → Rewrites Behind Old (the_sign b) [] (b ∷ [])
+sign_ends b h = record {
+  writes = λ old ts spelled real. record {
+    lexemes = sign b ∷ [];
+    spelled = (refl, refl);
+    lexed = λ rest others behind tokens. behind_sign h tokens;
+  };
+}
+
+pub sign_then : {Behind : List ℕ → Type 0} {A B B' : Mentioning} {ns : List Mention} {text : List ℕ} (b : ℕ)
+    → IsTrue (is_sign b)
+    → Rewrites Behind B B' ns text
+    → Rewrites Behind (A ⊙ B) (the_sign b ⊙ B') ns (b ∷ text)
+sign_then b h second = whole_then (always (sign_writes b h)) second
+
+-- `, ` between two texts
+pub comma_then : {Behind : List ℕ → Type 0} {A A' B B' : Mentioning} {ms ns : List Mention} {a b : List ℕ}
+    → Rewrites Stops A A' ms a
+    → Rewrites Behind B B' ns b
+    → Rewrites Behind (A ⊙ (the_comma ⊙ B)) (A' ⊙ (the_comma ⊙ B')) (ms ++ ns) (a ++ (codes ", " ++ b))
+comma_then first second =
+    and_then (λ rest behind. refl) first (sign_then 44 comma_is_sign (behind_a_space second))
+
+-- ---- what is left out
+
+-- Something that may be nothing, which isn't written.
+pub left_out_then : {Behind : List ℕ → Type 0} {A B B' : Mentioning} {L : Language} {ns : List Mention} {b : List ℕ}
+    → L []
+    → Rewrites Behind B B' ns b
+    → Rewrites Behind (A ⊙ B) (silent L ⊙ B') ns b
+left_out_then none second =
+    whole_then {a = []} (always (record { lexemes = []; spelled = (refl, none); lexed = λ rest others any tokens. tokens })) second
