@@ -6,7 +6,7 @@ use Rattle.ir_text.specs.declared.token.TokenKind.{TokenKind}
 use Rattle.ir_text.specs.declared.token.TokenKind.TheVariants.{Word}
 use Rattle.ir_text.specs.Tokens.{Lexeme, AreLexemes, IsTokenAt}
 use Rattle.ir_text.specs.Listed.{sign}
-use Rattle.ir_text.specs.Language.{Language}
+use Rattle.ir_text.specs.Language.{Language, ◌·◌}
 use Rattle.ir_text.specs.Mentions.{Mention, Mentioning, ◌⊙◌, silent}
 use Rattle.ir_grammar.specs.Operations.{the_word, the_sign, the_comma}
 use Rattle.ir_lex.proofs.Plain.{Stops, Word-token}
@@ -198,3 +198,17 @@ pub left_out_then : {Behind : List ℕ → Type 0} {A B B' : Mentioning} {L : La
     → Rewrites Behind (A ⊙ B) (silent L ⊙ B') ns b
 left_out_then none second =
     whole_then {a = []} (always (record { lexemes = []; spelled = (refl, none); lexed = λ rest others any tokens. tokens })) second
+
+-- ---- languages without mentions
+
+-- One language behind another is printed as their productions are.
+pub silently : {Behind : List ℕ → Type 0} {A A' B B' : Language} {text : List ℕ}
+    → Rewrites Behind (silent A ⊙ silent B) (silent A' ⊙ silent B') [] text
+    → Rewrites Behind (silent (A · B)) (silent (A' · B')) [] text
+silently both = record {
+  writes = λ old ts spelled real.
+      let parts = spelled.1 in
+      let all = both.writes [] ts ([], [], refl, (parts.0, parts.1, parts.2, (refl, parts.3), (refl, parts.4))) real in
+      let own = all.spelled.3 in
+      record { lexemes = all.lexemes; spelled = (refl, (own.0, own.1, own.2, own.3.1, own.4.1)); lexed = all.lexed };
+}
