@@ -1,5 +1,5 @@
 -- The text that is printed of a function has the ids of the function.
-use Rattle.std.proofs.Common.{◌≡◌, ℕ, List, [], ◌∷◌, map, Option, Some, None, refl, sym, ap, ◌∙◌, slice_get}
+use Rattle.std.proofs.Common.{suc, length, ◌≡◌, ℕ, List, [], ◌∷◌, map, Option, Some, None, refl, sym, ap, ◌∙◌, slice_get}
 use Rattle.std.specs.List.{AllByRecursion}
 use Rattle.std.specs.Option.{option_map, unwrap_or}
 use Rattle.std.proofs.lemmas.Option.{slice_get-map, same_Some, none-some}
@@ -7,16 +7,17 @@ use Rattle.ir_model.specs.declared.function.Function.{Function}
 use Rattle.ir_model.specs.declared.function.ValueInfo.{ValueInfo}
 use Rattle.ir_text.specs.Written.{Name}
 use Rattle.ir_text.specs.Mentions.{Mention}
+use Rattle.ir_text.specs.Mentions as mention
 use Rattle.ir_text.specs.Sites.{Site, function_sites}
 use Rattle.ir_text.specs.Sites as site
-use Rattle.ir_grammar.specs.Numbering.{Tables, tables_of, named, value_names, label_names, first_occurrences, same_name, text_of_name, StandsFor, EachMatches, IsFirstPlace, IsNumbered}
+use Rattle.ir_grammar.specs.Numbering.{Tables, tables_of, named, value_names, label_names, global_names, first_occurrences, same_name, text_of_name, StandsFor, EachMatches, IsFirstPlace, IsNumbered}
 use Rattle.ir_grammar.specs.Printing.{Thing, Value, Block_, named_value, named_block}
 use Rattle.ir_read_back.specs.Normal.{normal_function}
 use Rattle.ir_read_back.specs.Printed.{value_name, label_name, global_name, shown_mention, function_mentions}
 use Rattle.ir_read_back.proofs.Among.{each_weaker, each_both}
 use Rattle.ir_read_back.proofs.NamesApart.{Occurs, in_unnamed, Known, printed_places, printed_texts}
 use Rattle.ir_read_back.proofs.Typed.{types_normal, sites_normal}
-use Rattle.ir_read_back.proofs.Told.{value_ids, label_ids, global_ids, named_shown, shown_values, shown_labels, values_occur, labels_occur, HasPlace, Told, told_all}
+use Rattle.ir_read_back.proofs.Told.{value_ids, label_ids, global_ids, named_shown, shown_values, shown_labels, shown_globals, values_occur, labels_occur, HasPlace, Told, told_all}
 
 -- ---- the tables' text names
 
@@ -68,6 +69,23 @@ shown_match globals f tables P Q value label (site.UsesBlock b ∷ sites) vs bs 
     (label b bs.0, shown_match globals f tables P Q value label sites vs bs.1 gs)
 shown_match globals f tables P Q value label (site.UsesGlobal g ∷ sites) vs bs gs =
     (gs.0, shown_match globals f tables P Q value label sites vs bs gs.1)
+
+named_globals : (ms : List Mention) (next : ℕ) → global_names (named next ms) ≡ global_names ms
+named_globals [] next = refl
+named_globals (mention.DefinesValue written ∷ ms) next = named_globals ms _
+named_globals (mention.DefinesBlock written ∷ ms) next = named_globals ms _
+named_globals (mention.UsesValue name ∷ ms) next = named_globals ms next
+named_globals (mention.UsesBlock name ∷ ms) next = named_globals ms next
+named_globals (mention.UsesGlobal name ∷ ms) next =
+    ap (λ (names : List (List ℕ)). name ∷ names) (named_globals ms next)
+
+named_as_many : (ms : List Mention) (next : ℕ) → length (named next ms) ≡ length ms
+named_as_many [] next = refl
+named_as_many (mention.DefinesValue written ∷ ms) next = ap suc (named_as_many ms _)
+named_as_many (mention.DefinesBlock written ∷ ms) next = ap suc (named_as_many ms _)
+named_as_many (mention.UsesValue name ∷ ms) next = ap suc (named_as_many ms next)
+named_as_many (mention.UsesBlock name ∷ ms) next = ap suc (named_as_many ms next)
+named_as_many (mention.UsesGlobal name ∷ ms) next = ap suc (named_as_many ms next)
 
 module _ (globals : List (List ℕ)) (ms : List Mention) (f : Function) (numbered : IsNumbered globals ms f) where
   abbrev sites : List Site
@@ -154,6 +172,15 @@ module _ (globals : List (List ℕ)) (ms : List Mention) (f : Function) (numbere
   shown_ids =
       shown_match globals f (tables_of globals shown) KnownValue KnownLabel value_places label_places sites known_values
       known_labels told.globals
+
+  -- The globals that are mentioned are the same.
+  pub same_globals : global_names (function_mentions globals f) ≡ global_names ms
+  same_globals =
+      shown_globals globals f sites ∙ (sym told.global_names_are ∙ named_globals ms 0)
+
+  -- There are as many mentions as ids.
+  pub as_many_mentions : length ms ≡ length (function_sites f)
+  as_many_mentions = sym (named_as_many ms 0) ∙ told.as_many
 
   -- The function has the ids of what is printed of it.
   pub numbered_as_shown : IsNumbered globals shown f
