@@ -1,6 +1,6 @@
 -- A thing among others: after a filter, among first occurrences, and its place there.
 use Rattle.std.proofs.Common.{◌≡◌, ℕ, suc, ◌+◌, ◌<◌, ◌≤◌, Bool, true, not, List, [], ◌∷◌, ◌++◌, length, Some, ◌⊎◌, sym, ap, subst, inl, inr, slice_get, arith}
-use Rattle.std.specs.List.{filter, prefix_len, AllByRecursion}
+use Rattle.std.specs.List.{filter, prefix_len}
 use Rattle.ir_grammar.specs.Numbering.{first_occurrences}
 use Rattle.ir_print.proofs.Seen.{tested}
 
@@ -29,16 +29,6 @@ in_filter test (y ∷ ys) x passes (inr among) = elim (tested (test y)) [
   | inl e ↦ rw e (inr (in_filter test ys x passes among))
   | inr e ↦ rw e (in_filter test ys x passes among)
 ]
-
-pub each_weaker : {A : Type 0} (P Q : A → Type 0) → ((x : A) → P x → Q x) → (xs : List A) → AllByRecursion P xs
-    → AllByRecursion Q xs
-each_weaker P Q weaker [] each = tt
-each_weaker P Q weaker (x ∷ xs) each = (weaker x each.0, each_weaker P Q weaker xs each.1)
-
-pub each_both : {A : Type 0} (P Q : A → Type 0) (xs : List A) → AllByRecursion P xs → AllByRecursion Q xs
-    → AllByRecursion (λ x. P x × Q x) xs
-each_both P Q [] first second = tt
-each_both P Q (x ∷ xs) first second = ((first.0, second.0), each_both P Q xs first.1 second.1)
 
 pub filter_shorter : {A : Type 0} (test : A → Bool) (xs : List A) → length (filter test xs) ≤ length xs
 filter_shorter test [] = omega arith

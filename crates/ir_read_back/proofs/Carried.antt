@@ -13,6 +13,7 @@ use Rattle.ir_text.specs.Tokens.{Lexeme}
 use Rattle.ir_text.specs.Written.{IsLocal, IsLabel, IsGlobal}
 use Rattle.ir_text.specs.Mentions.{Mention, Mentioning, ◌⊙◌, silent, mentions, uses_value, uses_block, uses_global, defines_value, defines_block, unwritten, DefinesValue, UsesValue, DefinesBlock, UsesBlock, UsesGlobal, InOrder}
 use Rattle.ir_grammar.specs.Operations.{SpellsOperand, the_word, the_comma, SpellsTyped, SpellsPointer, SpellsBlockName, SpellsTarget, SpellsTwo, SpellsEntry, Argument, SpellsArgument, WithCommas, Listing, SpellsCase, SpellsOp}
+use Rattle.ir_read_back.proofs.EachThing.{all_front, all_behind, all_joined}
 use Rattle.ir_read_back.proofs.ByteNames.{MentionIsBytes, TokenIsBytes, local_bytes, label_bytes, global_bytes}
 
 -- ---- languages
@@ -25,19 +26,6 @@ pub record Carries (less more : ℕ) (ms : List Mention) (ts : List Lexeme) : Ty
 -- So it is with each sentence.
 pub record Carried (less more : ℕ) (A : List Mention → List Lexeme → Type 0) : Type 0 where
   pub holds : (ms : List Mention) (ts : List Lexeme) → A ms ts → Carries less more ms ts
-
-all_front : {A : Type 0} (P : A → Type 0) (xs ys : List A) → AllByRecursion P (xs ++ ys) → AllByRecursion P xs
-all_front P [] ys all = tt
-all_front P (x ∷ xs) ys all = (all.0, all_front P xs ys all.1)
-
-all_behind : {A : Type 0} (P : A → Type 0) (xs ys : List A) → AllByRecursion P (xs ++ ys) → AllByRecursion P ys
-all_behind P [] ys all = all
-all_behind P (x ∷ xs) ys all = all_behind P xs ys all.1
-
-all_joined : {A : Type 0} (P : A → Type 0) (xs ys : List A) → AllByRecursion P xs → AllByRecursion P ys
-    → AllByRecursion P (xs ++ ys)
-all_joined P [] ys first second = second
-all_joined P (x ∷ xs) ys first second = (first.0, all_joined P xs ys first.1 second)
 
 no_mention : (ms : List Mention) → ms ≡ [] → AllByRecursion MentionIsBytes ms
 no_mention ms none = rw none tt

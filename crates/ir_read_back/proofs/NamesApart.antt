@@ -105,7 +105,7 @@ name_equal (Number a) (Number b) e = ap Number (same_number a b e)
 name_equal (Text a) (Number b) e = absurd (false≢true e)
 name_equal (Number a) (Text b) e = absurd (false≢true e)
 
-is_its_text : (name : Name) (text : List ℕ) → text_of_name name ≡ Some text → name ≡ Text text
+pub is_its_text : (name : Name) (text : List ℕ) → text_of_name name ≡ Some text → name ≡ Text text
 is_its_text (Text a) text e = ap Text (same_Some a text e)
 is_its_text (Number n) text e = absurd (none-some text e)
 

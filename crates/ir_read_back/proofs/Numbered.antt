@@ -14,10 +14,10 @@ use Rattle.ir_grammar.specs.Numbering.{Tables, tables_of, named, value_names, la
 use Rattle.ir_grammar.specs.Printing.{Thing, Value, Block_, named_value, named_block}
 use Rattle.ir_read_back.specs.Normal.{normal_function}
 use Rattle.ir_read_back.specs.Printed.{value_name, label_name, global_name, shown_mention, function_mentions}
-use Rattle.ir_read_back.proofs.Among.{each_weaker, each_both}
 use Rattle.ir_read_back.proofs.NamesApart.{Occurs, in_unnamed, Known, printed_places, printed_texts}
 use Rattle.ir_read_back.proofs.Typed.{types_normal, sites_normal}
 use Rattle.ir_read_back.proofs.Told.{value_ids, label_ids, global_ids, named_shown, shown_values, shown_labels, shown_globals, values_occur, labels_occur, HasPlace, Told, told_all}
+use Rattle.ir_read_back.proofs.EachThing.{each_both, each_weaker}
 
 -- ---- the tables' text names
 
@@ -27,7 +27,7 @@ value_text_of : (f : Function) (v : ℕ) (text : Option (List ℕ)) (found : Opt
 value_text_of f v text None at e = absurd (none-some text e)
 value_text_of f v text (Some info) at e = rw at (same_Some info.name text e)
 
-value_text : (f : Function) (names : List Name)
+pub value_text : (f : Function) (names : List Name)
     → map (λ (info : ValueInfo). info.name) f.values ≡ map text_of_name names → (v : ℕ) (name : Name)
     → slice_get names v ≡ Some name → named_value f v ≡ text_of_name name
 value_text f names are v name at =
@@ -36,7 +36,7 @@ value_text f names are v name at =
     ∙ (ap (λ (texts : List (Option (List ℕ))). slice_get texts v) are
     ∙ (slice_get-map text_of_name names v ∙ ap (option_map text_of_name) at)))
 
-label_text : (f : Function) (names : List Name) → f.labels ≡ map text_of_name names → (b : ℕ) (name : Name)
+pub label_text : (f : Function) (names : List Name) → f.labels ≡ map text_of_name names → (b : ℕ) (name : Name)
     → slice_get names b ≡ Some name → named_block f b ≡ text_of_name name
 label_text f names are b name at =
     ap (λ (found : Option (Option (List ℕ))). unwrap_or found None)
@@ -79,7 +79,7 @@ named_globals (mention.UsesBlock name ∷ ms) next = named_globals ms next
 named_globals (mention.UsesGlobal name ∷ ms) next =
     ap (λ (names : List (List ℕ)). name ∷ names) (named_globals ms next)
 
-named_as_many : (ms : List Mention) (next : ℕ) → length (named next ms) ≡ length ms
+pub named_as_many : (ms : List Mention) (next : ℕ) → length (named next ms) ≡ length ms
 named_as_many [] next = refl
 named_as_many (mention.DefinesValue written ∷ ms) next = ap suc (named_as_many ms _)
 named_as_many (mention.DefinesBlock written ∷ ms) next = ap suc (named_as_many ms _)

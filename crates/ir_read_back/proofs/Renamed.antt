@@ -1,6 +1,6 @@
 -- Ids by the first occurrences of their names: other names that tell the same ids apart have the same ids.
-use Rattle.std.proofs.Common.{◌≡◌, ℕ, zero, suc, eqb, Bool, true, not, List, [], ◌∷◌, map, Option, Some, None, refl, sym, ap, subst, ◌∙◌, inl, inr, slice_get}
-use Rattle.std.specs.List.{filter, AllByRecursion}
+use Rattle.std.proofs.Common.{◌≡◌, ℕ, eqb, Bool, true, not, List, [], ◌∷◌, map, Option, Some, None, refl, sym, ap, subst, ◌∙◌, inl, inr, slice_get}
+use Rattle.std.specs.List.{AllByRecursion}
 use Rattle.std.specs.Option.{option_map}
 use Rattle.std.proofs.lemmas.Bool.{false≢true, eq-eqb}
 use Rattle.std.proofs.lemmas.Bool.Decides.{nat_tests}
@@ -9,46 +9,7 @@ use Rattle.ir_grammar.specs.Numbering.{first_occurrences}
 use Rattle.ir_grammar.proofs.OnePlace.{one_place}
 use Rattle.ir_print.proofs.Seen.{tested}
 use native.Mathlib.Omega.{arith}
-
--- ---- what holds of each thing of a list
-
-pub filter_each : {A : Type 0} (Q : A → Type 0) (test : A → Bool) (xs : List A) → AllByRecursion Q xs
-    → AllByRecursion Q (filter test xs)
-filter_each Q test [] each = tt
-filter_each Q test (x ∷ xs) each = elim (tested (test x)) [
-  | inl e ↦ rw e (each.0, filter_each Q test xs each.1)
-  | inr e ↦ rw e (filter_each Q test xs each.1)
-]
-
-pub first_each : {A : Type 0} (Q : A → Type 0) (same : A → A → Bool) (xs : List A) → AllByRecursion Q xs
-    → AllByRecursion Q (first_occurrences same xs)
-first_each Q same [] each = tt
-first_each Q same (x ∷ xs) each =
-    (each.0, filter_each Q (λ y. not (same x y)) (first_occurrences same xs) (first_each Q same xs each.1))
-
-pub at_place : {A : Type 0} (Q : A → Type 0) (xs : List A) (i : ℕ) (x : A) → AllByRecursion Q xs
-    → slice_get xs i ≡ Some x → Q x
-at_place Q [] i x each e = absurd (none-some x e)
-at_place Q (y ∷ ys) zero x each e = subst Q (same_Some y x e) each.0
-at_place Q (y ∷ ys) (suc i) x each e = at_place Q ys i x each.1 e
-
-pub same_map : {A B : Type 0} (Q : A → Type 0) (g h : A → B) → ((x : A) → Q x → g x ≡ h x) → (xs : List A)
-    → AllByRecursion Q xs → map g xs ≡ map h xs
-same_map Q g h same [] each = refl
-same_map Q g h same (x ∷ xs) each = rw (same x each.0, same_map Q g h same xs each.1) refl
-
-map_map : {A B C : Type 0} (f : B → C) (g : A → B) (xs : List A) → map f (map g xs) ≡ map (λ x. f (g x)) xs
-map_map f g [] = refl
-map_map f g (x ∷ xs) = ap (λ ys. f (g x) ∷ ys) (map_map f g xs)
-
-filter_of_map : {A B : Type 0} (Q : A → Type 0) (g : A → B) (p : B → Bool) (q : A → Bool)
-    → ((x : A) → Q x → p (g x) ≡ q x) → (xs : List A) → AllByRecursion Q xs
-    → filter p (map g xs) ≡ map g (filter q xs)
-filter_of_map Q g p q same [] each = refl
-filter_of_map Q g p q same (x ∷ xs) each = elim (tested (q x)) [
-  | inl e ↦ rw (same x each.0, e) (ap (λ ys. g x ∷ ys) (filter_of_map Q g p q same xs each.1))
-  | inr e ↦ rw (same x each.0, e) (filter_of_map Q g p q same xs each.1)
-]
+use Rattle.ir_read_back.proofs.EachThing.{at_place, filter_of_map, first_each, map_map, same_map}
 
 same_number : (i j : ℕ) → eqb i j ≡ true → i ≡ j
 same_number i j e = grind (arith, nat_tests)

@@ -11,8 +11,8 @@ use Rattle.ir_text.specs.Sites as site
 use Rattle.ir_grammar.specs.Numbering.{Tables, named, value_names, label_names, global_names, StandsFor, EachMatches, IsFirstPlace}
 use Rattle.ir_grammar.specs.Printing.{Thing, Value, Block_}
 use Rattle.ir_read_back.specs.Printed.{value_name, label_name, global_name, shown_mention}
-use Rattle.ir_read_back.proofs.Among.{each_weaker}
 use Rattle.ir_read_back.proofs.NamesApart.{Occurs}
+use Rattle.ir_read_back.proofs.EachThing.{each_weaker}
 
 -- ---- the ids of one sort
 
