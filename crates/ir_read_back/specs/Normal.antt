@@ -1,5 +1,5 @@
 -- A module with each numeral as it is printed: by its signed reading at its type's width, and as 0 or 1 at one bit.
-use Rattle.std.specs.Prelude.{ℕ, ◌==◌, if◌then◌else◌, List, map, ℤ, pos, Option, Some, None}
+use Rattle.std.specs.Prelude.{◌==◌, if◌then◌else◌, map, ℤ, pos, Option, Some, None}
 use mathlib.Core.Former.{Count}
 use Rattle.scev_base.specs.Residue.{residue, reading}
 use Rattle.ir_model.specs.declared.types.IrType.{IrType}
