@@ -8,8 +8,8 @@ use Rattle.ir_model.specs.declared.op.Operand.{Operand}
 use Rattle.ir_model.specs.declared.op.TypedOperand.{TypedOperand}
 use Rattle.ir_model.specs.declared.op.Case.{Case}
 use Rattle.ir_model.specs.declared.op.Op.TheVariants.{Jump, Branch, Switch, Ret, Unreachable}
-use Rattle.ir_text.specs.Mentions.{Mention, Mentioning, ◌⊙◌, silent, InOrder}
-use Rattle.ir_text.specs.Sites.{Site, UsesBlock, operand_sites, typed_sites, op_sites, bare_case}
+use Rattle.ir_text.specs.Mentions.{InOrder}
+use Rattle.ir_text.specs.Sites.{Site, UsesBlock, operand_sites, op_sites, bare_case}
 use Rattle.ir_text.specs.Types.{IsScalar}
 use Rattle.ir_grammar.specs.Operations.{SpellsCase}
 use Rattle.ir_grammar.specs.Printing.{Shown, case_text, op_text}
@@ -22,7 +22,7 @@ use Rattle.ir_read_back.proofs.TypeTexts.{type_rewrites}
 use Rattle.ir_read_back.proofs.Lists.{mapped_in_order, map_flat_map, in_order_rewrites, each_gives, each_part}
 use Rattle.ir_read_back.proofs.Operands.{operand_rewrites, typed_rewrites, target_rewrites, both_said, left_shown, right_shown}
 use Rattle.ir_read_back.proofs.PlainOps.{OpRewrites}
-use Rattle.ir_read_back.proofs.Writes.{Leads, Rewrites, always, beside, mentions_are, and_then, word_ends, word_then, sign_then, sign_ends, stop_then, space_then, comma_then, behind_a_space, pair_then}
+use Rattle.ir_read_back.proofs.Writes.{Rewrites, beside, mentions_are, word_ends, word_then, sign_then, sign_ends, space_then, comma_then, behind_a_space, pair_then}
 
 module _ (shown : Shown) (names : Names) (words : List (List ℕ)) where
   pub jump_rewrites : (to : BlockId)

@@ -1,9 +1,7 @@
 -- Lists as they are printed: one thing after another, and with commas between them.
 use Rattle.std.proofs.Common.{◌≡◌, ℕ, List, [], ◌∷◌, ◌++◌, map, flat_map, codes, refl, sym, ap, ◌∙◌, subst, append_assoc}
 use Rattle.std.proofs.lemmas.List.{append-nil, map-append}
-use Rattle.ir_text.specs.Tokens.{Lexeme}
-use Rattle.ir_text.specs.Mentions.{Mention, Mentioning, ◌⊙◌, silent, InOrder}
-use Rattle.ir_text.specs.Language.{nothing}
+use Rattle.ir_text.specs.Mentions.{Mention, Mentioning, ◌⊙◌, InOrder}
 use Rattle.ir_grammar.specs.Operations.{the_comma, WithCommas, Listing}
 use Rattle.ir_grammar.specs.Printing.{joined}
 use Rattle.ir_lex.proofs.Plain.{Stops}
@@ -15,7 +13,7 @@ use Rattle.ir_read_back.proofs.Writes.{Leads, Rewrites, and_then, comma_then, pr
 pub in_order_map : {X Y : Type 0} (Spells : Y → Mentioning) (f : X → Y) (xs : List X)
     → InOrder Spells (map f xs) ≡ InOrder (λ x. Spells (f x)) xs
 in_order_map Spells f [] = refl
-in_order_map Spells f (x ∷ xs) = 
+in_order_map Spells f (x ∷ xs) =
     ap {B = Mentioning} (λ more ms ts. (Spells (f x) ⊙ more) ms ts) (in_order_map Spells f xs)
 
 pub with_commas_map : {X Y : Type 0} (Spells : Y → Mentioning) (f : X → Y) (xs : List X)

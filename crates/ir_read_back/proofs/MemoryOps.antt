@@ -9,7 +9,7 @@ use Rattle.ir_model.specs.declared.op.Op.TheVariants.{Alloca, Load, Store, Gep}
 use Rattle.ir_text.specs.Mentions.{Mention, Mentioning, ◌⊙◌, silent, InOrder}
 use Rattle.ir_text.specs.Sites.{operand_sites, typed_sites, op_sites, bare_operand, bare_typed}
 use Rattle.ir_text.specs.Types.{IsInt, IsStored}
-use Rattle.ir_grammar.specs.Operations.{SpellsTyped, SpellsPointer, SpellsAlign, the_word, the_type, the_comma}
+use Rattle.ir_grammar.specs.Operations.{SpellsTyped, SpellsPointer, SpellsAlign, the_comma}
 use Rattle.ir_grammar.specs.Printing.{Shown, type_text, operand_text, words_at, align_text, typed_text, pointer_text, op_text}
 use Rattle.ir_lex.proofs.Plain.{Stops}
 use Rattle.ir_read_back.specs.Normal.{normal_operand, normal_typed}
@@ -21,7 +21,7 @@ use Rattle.ir_read_back.proofs.Passed.{align_rewrites, stops_align}
 use Rattle.ir_read_back.proofs.Lists.{mapped_in_order, map_flat_map, in_order_rewrites, each_gives, each_part}
 use Rattle.ir_read_back.proofs.Operands.{operand_rewrites, typed_rewrites, pointer_rewrites, both_said, left_shown, right_shown}
 use Rattle.ir_read_back.proofs.PlainOps.{OpRewrites}
-use Rattle.ir_read_back.proofs.Writes.{Writes, Rewrites, always, beside, mentions_are, and_then, word_then, sign_then, whole_then, stop_then, space_then, comma_then, behind_a_space}
+use Rattle.ir_read_back.proofs.Writes.{Writes, Rewrites, always, beside, mentions_are, word_then, sign_then, whole_then, stop_then, space_then, comma_then, behind_a_space}
 
 -- A production with one text of passed-on words, which is printed by the place that it has among the words.
 aligned : {A A' : List ℕ → Mentioning} {ms : List Mention} (words : List (List ℕ)) (text : List ℕ → List ℕ)

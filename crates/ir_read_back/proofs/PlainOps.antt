@@ -14,7 +14,7 @@ use Rattle.ir_model.specs.declared.op.Op.{Op}
 use Rattle.ir_model.specs.declared.op.Op.TheVariants.{Binary, Icmp, Cast, Select, Phi, Freeze}
 use Rattle.ir_text.specs.Tokens.{Lexeme}
 use Rattle.ir_text.specs.Language.{Language}
-use Rattle.ir_text.specs.Mentions.{Mention, Mentioning, ◌⊙◌, silent}
+use Rattle.ir_text.specs.Mentions.{◌⊙◌, silent}
 use Rattle.ir_text.specs.Sites.{Site, UsesBlock, operand_sites, typed_sites, entry_sites, op_sites, bare_operand, bare_entry, bare_op}
 use Rattle.ir_text.specs.Types.{IsScalar}
 use Rattle.ir_grammar.specs.Operations.{SpellsOp, SpellsTyped, SpellsEntry, WithCommas, the_word, the_type, binary_text, pred_text, flag_kind}
