@@ -1,14 +1,12 @@
 -- Functions as they are printed.
 use Rattle.std.proofs.Common.{◌≡◌, ◌≢◌, ℕ, List, [], ◌∷◌, ◌++◌, map, flat_map, codes, refl, sym, ap, subst}
 use Rattle.std.proofs.lemmas.List.{append-nil}
-use Rattle.ir_model.specs.declared.op.Op.{Op}
 use Rattle.ir_model.specs.declared.function.Block.{Block}
 use Rattle.ir_model.specs.declared.function.Function.{Function}
-use Rattle.ir_text.specs.Tokens.{Lexeme, AreLexemes}
 use Rattle.ir_text.specs.Language.{one, none}
 use Rattle.ir_text.specs.Written.{IsGlobal}
-use Rattle.ir_text.specs.Mentions.{Mention, Mentioning, ◌⊙◌, silent, InOrder}
-use Rattle.ir_text.specs.Sites.{op_sites, block_sites, function_sites, bare_param, bare_block, bare_function}
+use Rattle.ir_text.specs.Mentions.{Mentioning, ◌⊙◌, silent, InOrder}
+use Rattle.ir_text.specs.Sites.{block_sites, function_sites, bare_param, bare_block, bare_function}
 use Rattle.ir_text.specs.Types.{IsReturned}
 use Rattle.ir_text.specs.PassedOn.{SpellsWords, metadata_pairs}
 use Rattle.ir_grammar.specs.Operations.{Listing, the_word, the_sign, the_type}
@@ -22,11 +20,10 @@ use Rattle.ir_read_back.proofs.GlobalNames.{global_rewrites}
 use Rattle.ir_read_back.proofs.TypeTexts.{type_rewrites}
 use Rattle.ir_read_back.proofs.Passed.{words_before, words_behind}
 use Rattle.ir_read_back.proofs.Operands.{both_said, left_shown, right_shown}
-use Rattle.ir_read_back.proofs.Ops.{op_rewrites}
 use Rattle.ir_read_back.proofs.Instructions.{behind_a_line_feed}
-use Rattle.ir_read_back.proofs.Params.{param_site, stops_words, params_rewrite}
+use Rattle.ir_read_back.proofs.Params.{param_site, params_rewrite}
 use Rattle.ir_read_back.proofs.Blocks.{blocks_rewrite}
-use Rattle.ir_read_back.proofs.Writes.{Anything, Writes, Rewrites, always, mentions_are, and_then, word_then, sign_then, whole_then, stop_then, space_then, left_out_then, behind_a_space}
+use Rattle.ir_read_back.proofs.Writes.{Anything, Writes, Rewrites, always, mentions_are, and_then, word_then, sign_then, whole_then, space_then, left_out_then, behind_a_space}
 
 some_again : (blocks : List Block) → map bare_block blocks ≢ [] → map bare_block (map normal_block blocks) ≢ []
 some_again [] some empty = some refl
@@ -63,7 +60,7 @@ module _ (shown : Shown) (names : Names) (f : Function) where
       sign_then 123 opening_brace_is_sign
       (behind_a_line_feed
       (mentions_are _ _ (append-nil (said_at names (flat_map block_sites f.blocks)))
-      (whole_then (blocks_rewrite shown names (op_rewrites shown names) f.blocks are) closing_line)))
+      (whole_then (blocks_rewrite shown names f.blocks are) closing_line)))
 
   parts_rewrite : (before after : List ℕ)
       → AreShown shown names (function_sites f)

@@ -13,7 +13,7 @@ use Rattle.ir_text.specs.Sites.{DefinesValue, result_sites, op_sites, instr_site
 use Rattle.ir_text.specs.PassedOn.{attachments}
 use Rattle.ir_grammar.specs.Operations.{the_sign}
 use Rattle.ir_grammar.specs.Functions.{is_terminator, MayHaveResult, GivesValue, SpellsResult, SpellsLine, SpellsInstrs}
-use Rattle.ir_grammar.specs.Printing.{Shown, result_text, op_text, instr_text}
+use Rattle.ir_grammar.specs.Printing.{Shown, result_text, instr_text}
 use Rattle.ir_read_back.specs.Normal.{normal_op, normal_instr}
 use Rattle.ir_read_back.proofs.Steps.{behind_line_feed}
 use Rattle.ir_read_back.proofs.Steps as steps
@@ -21,7 +21,7 @@ use Rattle.ir_read_back.proofs.Words.{equals_is_sign}
 use Rattle.ir_read_back.proofs.Named.{Names, Shows, AreShown, said_at}
 use Rattle.ir_read_back.proofs.Sayings.{defined_value_writes}
 use Rattle.ir_read_back.proofs.Operands.{both_said, left_shown, right_shown}
-use Rattle.ir_read_back.proofs.PlainOps.{OpRewrites}
+use Rattle.ir_read_back.proofs.Ops.{op_rewrites}
 use Rattle.ir_read_back.proofs.Writes.{Anything, Writes, Rewrites, always, text_is, mentions_are, and_then, whole_then, left_out_then, behind_a_space}
 
 -- ---- what is the same of an operation with its numbers as they are printed
@@ -191,44 +191,42 @@ module _ (shown : Shown) (names : Names) where
         };
   }
 
-  module _ (op_rewrites : (op : Op) (words : List (List ℕ))
-      → AreShown shown names (op_sites op) → OpRewrites shown names op words) where
-    -- ---- lines
+  -- ---- lines
 
-    -- An instruction is printed on a line of its own, with nothing of what is dropped.
-    pub line_rewrites : (instr : Instr)
-        → AreShown shown names (instr_sites instr)
-        → Rewrites Anything (SpellsLine (bare_instr instr)) (SpellsLine (bare_instr (normal_instr instr)))
-        (said_at names (instr_sites instr)) (instr_text shown instr)
-    line_rewrites instr are =
-        let rs = result_sites instr.result in
-        let os = op_sites instr.op in
-        left_out_then none
-        (behind_a_space
-        (behind_a_space
-        (both_said shown names rs os
-        (whole_then (result_rewrites instr.op instr.result (left_shown shown names rs os are))
-        (mentions_are _ _ (append-nil (said_at names os))
-        (and_then (λ rest any. refl) (op_rewrites instr.op instr.words (right_shown shown names rs os are))
-        no_attachments))))))
+  -- An instruction is printed on a line of its own, with nothing of what is dropped.
+  pub line_rewrites : (instr : Instr)
+      → AreShown shown names (instr_sites instr)
+      → Rewrites Anything (SpellsLine (bare_instr instr)) (SpellsLine (bare_instr (normal_instr instr)))
+      (said_at names (instr_sites instr)) (instr_text shown instr)
+  line_rewrites instr are =
+      let rs = result_sites instr.result in
+      let os = op_sites instr.op in
+      left_out_then none
+      (behind_a_space
+      (behind_a_space
+      (both_said shown names rs os
+      (whole_then (result_rewrites instr.op instr.result (left_shown shown names rs os are))
+      (mentions_are _ _ (append-nil (said_at names os))
+      (and_then (λ rest any. refl) (op_rewrites shown names instr.op instr.words (right_shown shown names rs os are))
+      no_attachments))))))
 
-    -- The instructions of a block, of which the last one ends it.
-    pub instrs_rewrite : (instrs : List Instr)
-        → AreShown shown names (flat_map instr_sites instrs)
-        → Rewrites Anything (SpellsInstrs (map bare_instr instrs))
-        (SpellsInstrs (map bare_instr (map normal_instr instrs)))
-        (said_at names (flat_map instr_sites instrs)) (flat_map (instr_text shown) instrs)
-    instrs_rewrite [] are = record { writes = λ old ts spelled real. absurd spelled }
-    instrs_rewrite (last ∷ []) are =
-        let own = left_shown shown names (instr_sites last) [] are in
-        beside_what_follows _ _ (λ ends. rw (ends_same last.op) ends)
-        (both_said shown names (instr_sites last) []
-        (mentions_are _ _ (sym (append-nil (said_at names (instr_sites last))))
-        (text_is _ _ (sym (append-nil (instr_text shown last))) (line_rewrites last own))))
-    instrs_rewrite (instr ∷ next ∷ instrs) are =
-        let own = instr_sites instr in
-        let more = flat_map instr_sites (next ∷ instrs) in
-        beside_what_follows _ _ (λ goes_on. rw (ends_same instr.op) goes_on)
-        (both_said shown names own more
-        (whole_then (line_rewrites instr (left_shown shown names own more are))
-        (instrs_rewrite (next ∷ instrs) (right_shown shown names own more are))))
+  -- The instructions of a block, of which the last one ends it.
+  pub instrs_rewrite : (instrs : List Instr)
+      → AreShown shown names (flat_map instr_sites instrs)
+      → Rewrites Anything (SpellsInstrs (map bare_instr instrs))
+      (SpellsInstrs (map bare_instr (map normal_instr instrs)))
+      (said_at names (flat_map instr_sites instrs)) (flat_map (instr_text shown) instrs)
+  instrs_rewrite [] are = record { writes = λ old ts spelled real. absurd spelled }
+  instrs_rewrite (last ∷ []) are =
+      let own = left_shown shown names (instr_sites last) [] are in
+      beside_what_follows _ _ (λ ends. rw (ends_same last.op) ends)
+      (both_said shown names (instr_sites last) []
+      (mentions_are _ _ (sym (append-nil (said_at names (instr_sites last))))
+      (text_is _ _ (sym (append-nil (instr_text shown last))) (line_rewrites last own))))
+  instrs_rewrite (instr ∷ next ∷ instrs) are =
+      let own = instr_sites instr in
+      let more = flat_map instr_sites (next ∷ instrs) in
+      beside_what_follows _ _ (λ goes_on. rw (ends_same instr.op) goes_on)
+      (both_said shown names own more
+      (whole_then (line_rewrites instr (left_shown shown names own more are))
+      (instrs_rewrite (next ∷ instrs) (right_shown shown names own more are))))

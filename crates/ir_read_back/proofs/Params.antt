@@ -1,8 +1,7 @@
 -- Parameters as they are printed, with their names.
-use Rattle.std.proofs.Common.{◌≡◌, ℕ, zero, List, [], ◌∷◌, ◌++◌, map, flat_map, codes, refl, sym, ap, ◌∙◌, ◌⊎◌, inl, None}
-use Rattle.std.proofs.lemmas.List.{append-nil}
+use Rattle.std.proofs.Common.{◌≡◌, ℕ, zero, List, [], ◌∷◌, ◌++◌, map, flat_map, codes, refl, sym, ap, ◌⊎◌, inl, None}
 use Rattle.ir_model.specs.declared.function.Param.{Param}
-use Rattle.ir_text.specs.Mentions.{Mention, Mentioning, DefinesValue, defines_value, unwritten}
+use Rattle.ir_text.specs.Mentions.{Mentioning, DefinesValue, defines_value, unwritten}
 use Rattle.ir_text.specs.Sites.{Site, bare_param}
 use Rattle.ir_text.specs.Sites as site
 use Rattle.ir_text.specs.Types.{IsScalar}
