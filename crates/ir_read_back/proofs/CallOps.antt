@@ -138,7 +138,8 @@ module _ (shown : Shown) (names : Names) where
       let more = flat_map typed_sites (other ∷ args) in
       both_said shown names ss more
       (comma_then (seen_rewrites arg a (heads _ _ _ _ same) (left_shown shown names ss more are))
-      (arguments_rewrite (other ∷ args) (b ∷ arguments) after (tails _ _ _ _ same) (right_shown shown names ss more are)))
+      (arguments_rewrite (other ∷ args) (b ∷ arguments) after (tails _ _ _ _ same)
+      (right_shown shown names ss more are)))
 
   -- a call without its words
   abbrev CallOf : IrType → List ℕ → List ℕ → List ℕ → List ℕ → List Argument → Mentioning

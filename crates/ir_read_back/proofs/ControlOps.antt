@@ -79,7 +79,8 @@ module _ (shown : Shown) (names : Names) (words : List (List ℕ)) where
 
   case_rewrites : (c : Case)
       → AreShown shown names (case_sites c)
-      → Rewrites Stops (SpellsCase (bare_case c)) (SpellsCase (bare_case (normal_case c))) (said_at names (case_sites c))
+      → Rewrites Stops (SpellsCase (bare_case c)) (SpellsCase (bare_case (normal_case c)))
+      (said_at names (case_sites c))
       (32 ∷ case_text shown c)
   case_rewrites c are =
       behind_a_space
@@ -88,7 +89,8 @@ module _ (shown : Shown) (names : Names) (words : List (List ℕ)) where
 
   cases_rewrite : (cases : List Case)
       → AreShown shown names (flat_map case_sites cases)
-      → Rewrites Stops (InOrder SpellsCase (map bare_case cases)) (InOrder SpellsCase (map bare_case (map normal_case cases)))
+      → Rewrites Stops (InOrder SpellsCase (map bare_case cases))
+      (InOrder SpellsCase (map bare_case (map normal_case cases)))
       (said_at names (flat_map case_sites cases)) (flat_map (λ c. 32 ∷ case_text shown c) cases)
   cases_rewrite cases are =
       mapped_in_order SpellsCase bare_case normal_case cases

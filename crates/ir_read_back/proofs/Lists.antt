@@ -24,8 +24,8 @@ with_commas_map Spells f (x ∷ y ∷ ys) =
     ap {B = Mentioning} (λ more ms ts. (Spells (f x) ⊙ the_comma ⊙ more) ms ts) (with_commas_map Spells f (y ∷ ys))
 
 -- Where each thing is taken twice.
-pub mapped_commas : {X : Type 0} {Behind : List ℕ → Type 0} {ms : List Mention} {text : List ℕ} (Spells : X → Mentioning)
-    (bare normal : X → X) (xs : List X)
+pub mapped_commas : {X : Type 0} {Behind : List ℕ → Type 0} {ms : List Mention} {text : List ℕ}
+    (Spells : X → Mentioning) (bare normal : X → X) (xs : List X)
     → Rewrites Behind (WithCommas (λ x. Spells (bare x)) xs) (WithCommas (λ x. Spells (bare (normal x))) xs) ms text
     → Rewrites Behind (WithCommas Spells (map bare xs)) (WithCommas Spells (map bare (map normal xs))) ms text
 mapped_commas Spells bare normal xs part =

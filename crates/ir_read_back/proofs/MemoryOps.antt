@@ -59,7 +59,8 @@ module _ (shown : Shown) (names : Names) (words : List (List ℕ)) where
       → OpRewrites shown names (Load kind from) words
   unfolding op_text
   load_rewrites kind from are =
-      aligned words (λ w. codes "load " ++ (type_text kind ++ (codes ", " ++ (pointer_text shown from ++ align_text w))))
+      aligned words
+      (λ w. codes "load " ++ (type_text kind ++ (codes ", " ++ (pointer_text shown from ++ align_text w))))
       (λ w. word_then (codes "load") load_is_word
       (comma_then (type_rewrites IsInt kind) (aligned_pointer from w are)))
 
@@ -85,7 +86,8 @@ module _ (shown : Shown) (names : Names) (words : List (List ℕ)) where
 
   index_rewrites : (index : TypedOperand)
       → AreShown shown names (typed_sites index)
-      → Rewrites Stops (the_comma ⊙ SpellsTyped (bare_typed index)) (the_comma ⊙ SpellsTyped (bare_typed (normal_typed index)))
+      → Rewrites Stops (the_comma ⊙ SpellsTyped (bare_typed index))
+      (the_comma ⊙ SpellsTyped (bare_typed (normal_typed index)))
       (said_at names (typed_sites index)) (index_text index)
   index_rewrites index are = sign_then 44 comma_is_sign (behind_a_space (typed_rewrites shown names index are))
 
@@ -97,7 +99,8 @@ module _ (shown : Shown) (names : Names) (words : List (List ℕ)) where
   indices_rewrite indices are =
       mapped_in_order (λ index. the_comma ⊙ SpellsTyped index) bare_typed normal_typed indices
       (mentions_are _ _ (sym (map_flat_map (mention_at names) typed_sites indices))
-      (in_order_rewrites (λ i. the_comma ⊙ SpellsTyped (bare_typed i)) (λ i. the_comma ⊙ SpellsTyped (bare_typed (normal_typed i)))
+      (in_order_rewrites (λ i. the_comma ⊙ SpellsTyped (bare_typed i))
+      (λ i. the_comma ⊙ SpellsTyped (bare_typed (normal_typed i)))
       (λ i. said_at names (typed_sites i)) index_text Stops (λ index rest behind. refl) indices
       (each_gives _ _ index_rewrites indices (each_part (IsShown shown names) typed_sites indices are))))
 

@@ -51,9 +51,11 @@ numeral_writes z fits =
 bit_writes : (r : ℕ) → r < 2
     → Writes Stops (silent (SpellsNumber (pos r))) [] (cond (eqb r 1) (codes "true") (codes "false"))
 bit_writes zero small =
-    token_writes Word (codes "false") (refl, inr (inr (refl, refl))) (λ next stops. Word-token _ next false_is_word stops)
+    token_writes Word (codes "false") (refl, inr (inr (refl, refl)))
+    (λ next stops. Word-token _ next false_is_word stops)
 bit_writes (suc zero) small =
-    token_writes Word (codes "true") (refl, inr (inl (refl, refl))) (λ next stops. Word-token _ next true_is_word stops)
+    token_writes Word (codes "true") (refl, inr (inl (refl, refl)))
+    (λ next stops. Word-token _ next true_is_word stops)
 bit_writes (suc (suc r)) small = absurd (omega arith)
 
 int_writes : (width : ℕ) (n : ℤ) → FitsSigned128 n

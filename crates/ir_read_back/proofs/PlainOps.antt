@@ -164,4 +164,5 @@ module _ (shown : Shown) (names : Names) (words : List (List ℕ)) where
   unfolding op_text
   phi_rewrites kind entries are =
       beside (words ≡ [])
-      (word_then (codes "phi") phi_is_word (space_then (type_rewrites IsScalar kind) (entries_rewrite kind entries are)))
+      (word_then (codes "phi") phi_is_word
+      (space_then (type_rewrites IsScalar kind) (entries_rewrite kind entries are)))

@@ -240,7 +240,8 @@ string_only bs next string stops m other at =
     let no_label : begins_label s ≡ false = false_from_ne_true _
     (λ label. no_colon_behind next stops
     (sym (behind (34 ∷ bs) next (name_len s) name) ∙ (label-colon s label).1)) in
-    let size : quoted_len s ≡ suc (length bs) = quoted_len-quote (bs ++ next) ∙ string_len-whole (34 ∷ bs) next string in
+    let size : quoted_len s ≡ suc (length bs) =
+    quoted_len-quote (bs ++ next) ∙ string_len-whole (34 ∷ bs) next string in
     let plain = only_plain 34 (bs ++ next) m other quote-no_sigil at in
     omega (arith, size, at_most m (quoted_len s) other Quoted (only_quoted s no_label (omega arith) m other plain))
 
