@@ -45,8 +45,8 @@ FunctionOf f before after blocks = the_word (codes "define") ⊙ silent (SpellsW
     ⊙ the_sign 123 ⊙ InOrder SpellsBlock blocks ⊙ the_sign 125
 
 abbrev text_of : Shown → Function → List ℕ → List ℕ → List ℕ
-text_of shown f before after = codes "define " ++ (before_space before ++ (type_text f.ret ++ (codes " @" ++ (name_text f.name
-    ++ (codes "(" ++ (joined (param_text shown) (codes ", ") f.params
+text_of shown f before after = codes "define " ++ (before_space before ++ (type_text f.ret ++ (codes " @"
+    ++ (name_text f.name ++ (codes "(" ++ (joined (param_text shown) (codes ", ") f.params
     ++ (codes ")" ++ (behind_space after
     ++ (codes " {\n" ++ (flat_map (block_lines shown) f.blocks ++ codes "}\n"))))))))))
 
@@ -70,7 +70,6 @@ module _ (shown : Shown) (names : Names) (f : Function) where
   parts_rewrite before after are =
       let ps = map param_site f.params in
       let bs = flat_map block_sites f.blocks in
-      let lines = codes "{\n" ++ (flat_map (block_lines shown) f.blocks ++ codes "}\n") in
       word_then (codes "define") define_is_word
       (whole_then (words_before before)
       (space_then (type_rewrites IsReturned f.ret)
