@@ -1,12 +1,12 @@
 -- Operands and blocks as they are printed.
-use Rattle.std.proofs.Common.{◌≡◌, ℕ, zero, List, [], ◌∷◌, ◌++◌, map, codes, refl, sym}
+use Rattle.std.proofs.Common.{◌≡◌, ℕ, zero, List, [], ◌∷◌, ◌++◌, codes, refl, sym}
 use Rattle.std.proofs.lemmas.List.{map-append}
 use Rattle.ir_model.specs.declared.types.IrType.{IrType}
 use Rattle.ir_model.specs.declared.types.IrType.TheVariants.{Ptr}
 use Rattle.ir_model.specs.declared.op.Operand.{Operand}
 use Rattle.ir_model.specs.declared.op.Operand.TheVariants as operand
 use Rattle.ir_model.specs.declared.op.TypedOperand.{TypedOperand}
-use Rattle.ir_text.specs.Mentions.{Mention, Mentioning, ◌⊙◌}
+use Rattle.ir_text.specs.Mentions.{Mention, Mentioning}
 use Rattle.ir_text.specs.Sites.{Site, UsesBlock, operand_sites, typed_sites, bare_operand, bare_typed}
 use Rattle.ir_text.specs.Types.{IsScalar}
 use Rattle.ir_grammar.specs.Operations.{SpellsOperand, SpellsTyped, SpellsPointer, SpellsBlockName, SpellsTarget, SpellsTwo}
@@ -14,7 +14,7 @@ use Rattle.ir_grammar.specs.Printing.{Shown, operand_text, typed_text, pointer_t
 use Rattle.ir_lex.proofs.Plain.{Stops}
 use Rattle.ir_read_back.specs.Normal.{normal_operand, normal_typed}
 use Rattle.ir_read_back.proofs.Words.{ptr_is_word, label_is_word, null_is_word, undef_is_word, poison_is_word}
-use Rattle.ir_read_back.proofs.Real.{Each, each-left, each-right}
+use Rattle.ir_read_back.proofs.Real.{each-left, each-right}
 use Rattle.ir_read_back.proofs.Named.{Names, Shows, mention_at, IsShown, AreShown, said_at}
 use Rattle.ir_read_back.proofs.Sayings.{used_value_writes, used_block_writes, used_global_writes}
 use Rattle.ir_read_back.proofs.Numbers.{number_rewrites}

@@ -51,7 +51,11 @@ pub before_stop : {Old New : Mentioning} {ms : List Mention} {text : List ℕ}
 before_stop part = record {
   writes = λ old ts spelled real.
       let whole = part.writes old ts spelled real in
-      record { lexemes = whole.lexemes; spelled = whole.spelled; lexed = λ rest others stops tokens. whole.lexed rest others tt tokens };
+      record {
+        lexemes = whole.lexemes;
+        spelled = whole.spelled;
+        lexed = λ rest others stops tokens. whole.lexed rest others tt tokens;
+      };
 }
 
 -- ---- one after another
@@ -197,7 +201,8 @@ pub left_out_then : {Behind : List ℕ → Type 0} {A B B' : Mentioning} {L : La
     → Rewrites Behind B B' ns b
     → Rewrites Behind (A ⊙ B) (silent L ⊙ B') ns b
 left_out_then none second =
-    whole_then {a = []} (always (record { lexemes = []; spelled = (refl, none); lexed = λ rest others any tokens. tokens })) second
+    whole_then {a = []}
+    (always (record { lexemes = []; spelled = (refl, none); lexed = λ rest others any tokens. tokens })) second
 
 -- ---- languages without mentions
 
