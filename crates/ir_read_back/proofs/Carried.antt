@@ -1,6 +1,5 @@
 -- What is mentioned stands in tokens: there are no more mentions than tokens, and names are bytes where tokens are.
 use Rattle.std.proofs.Common.{◌≡◌, ℕ, ◌+◌, ◌≤◌, List, [], ◌∷◌, ◌++◌, length, Some, None, ap, subst, arith, length-append}
-use Rattle.std.specs.List.{AllByRecursion}
 use Rattle.ir_model.specs.declared.types.IrType.{IrType}
 use Rattle.ir_model.specs.declared.op.Operand.{Operand}
 use Rattle.ir_model.specs.declared.op.Operand.TheVariants as operand
@@ -13,24 +12,24 @@ use Rattle.ir_text.specs.Tokens.{Lexeme}
 use Rattle.ir_text.specs.Written.{IsLocal, IsLabel, IsGlobal}
 use Rattle.ir_text.specs.Mentions.{Mention, Mentioning, ◌⊙◌, silent, mentions, uses_value, uses_block, uses_global, defines_value, defines_block, unwritten, DefinesValue, UsesValue, DefinesBlock, UsesBlock, UsesGlobal, InOrder}
 use Rattle.ir_grammar.specs.Operations.{SpellsOperand, the_word, the_comma, SpellsTyped, SpellsPointer, SpellsBlockName, SpellsTarget, SpellsTwo, SpellsEntry, Argument, SpellsArgument, WithCommas, Listing, SpellsCase, SpellsOp}
-use Rattle.ir_read_back.proofs.EachThing.{all_front, all_behind, all_joined}
-use Rattle.ir_read_back.proofs.ByteNames.{MentionIsBytes, TokenIsBytes, local_bytes, label_bytes, global_bytes}
+use Rattle.ir_read_back.proofs.ByteNames.{MentionIsBytes, local_bytes, label_bytes, global_bytes}
+use Rattle.ir_read_back.proofs.Real.{Each, IsReal, each-append, each-left, each-right}
 
 -- ---- languages
 
 -- There are no more mentions than tokens, but for so many less or more; where the tokens are bytes, the names are.
 pub record Carries (less more : ℕ) (ms : List Mention) (ts : List Lexeme) : Type 0 where
   pub room : length ms + more ≤ length ts + less
-  pub bytes : AllByRecursion TokenIsBytes ts → AllByRecursion MentionIsBytes ms
+  pub bytes : Each IsReal ts → Each MentionIsBytes ms
 
 -- So it is with each sentence.
 pub record Carried (less more : ℕ) (A : List Mention → List Lexeme → Type 0) : Type 0 where
   pub holds : (ms : List Mention) (ts : List Lexeme) → A ms ts → Carries less more ms ts
 
-no_mention : (ms : List Mention) → ms ≡ [] → AllByRecursion MentionIsBytes ms
+no_mention : (ms : List Mention) → ms ≡ [] → Each MentionIsBytes ms
 no_mention ms none = rw none tt
 
-only_mention : (m : Mention) (ms : List Mention) → ms ≡ m ∷ [] → MentionIsBytes m → AllByRecursion MentionIsBytes ms
+only_mention : (m : Mention) (ms : List Mention) → ms ≡ m ∷ [] → MentionIsBytes m → Each MentionIsBytes ms
 only_mention m ms one is = rw one (is, tt)
 
 pub silent_carries : (ms : List Mention) (ts : List Lexeme) → ms ≡ [] → Carries 0 0 ms ts
@@ -39,13 +38,13 @@ silent_carries ms ts none = record { room = omega (arith, ap length none); bytes
 pub carried_silent : {L : List Lexeme → Type 0} → Carried 0 0 (silent L)
 carried_silent = record { holds = λ ms ts spelled. silent_carries ms ts spelled.0 }
 
-only_token : (t : Lexeme) (ts : List Lexeme) → ts ≡ t ∷ [] → AllByRecursion TokenIsBytes ts → TokenIsBytes t
+only_token : (t : Lexeme) (ts : List Lexeme) → ts ≡ t ∷ [] → Each IsReal ts → IsReal t
 only_token t ts one all =
-    let moved : AllByRecursion TokenIsBytes (t ∷ []) = subst (AllByRecursion TokenIsBytes) one all in
+    let moved : Each IsReal (t ∷ []) = subst (Each IsReal) one all in
     moved.0
 
 -- one token with one mention
-pub mention_carries : (m : Mention) (Is : Lexeme → Type 0) → ((t : Lexeme) → Is t → TokenIsBytes t → MentionIsBytes m)
+pub mention_carries : (m : Mention) (Is : Lexeme → Type 0) → ((t : Lexeme) → Is t → IsReal t → MentionIsBytes m)
     → (ms : List Mention) (ts : List Lexeme) → mentions m Is ms ts → Carries 0 0 ms ts
 mention_carries m Is bytes ms ts spelled = record {
   room = omega (arith, ap length spelled.0, ap length spelled.1.1);
@@ -59,13 +58,13 @@ unwritten_carries m is ms ts spelled =
     record { room = omega (arith, ap length spelled.0); bytes = λ all. only_mention m ms spelled.0 is }
 
 joined_bytes : (before behind ms : List Mention) (us vs ts : List Lexeme) → ms ≡ before ++ behind → ts ≡ us ++ vs
-    → (AllByRecursion TokenIsBytes us → AllByRecursion MentionIsBytes before)
-    → (AllByRecursion TokenIsBytes vs → AllByRecursion MentionIsBytes behind)
-    → AllByRecursion TokenIsBytes ts → AllByRecursion MentionIsBytes ms
+    → (Each IsReal us → Each MentionIsBytes before)
+    → (Each IsReal vs → Each MentionIsBytes behind)
+    → Each IsReal ts → Each MentionIsBytes ms
 joined_bytes before behind ms us vs ts are parts first second all =
-    let split : AllByRecursion TokenIsBytes (us ++ vs) = subst (AllByRecursion TokenIsBytes) parts all in
-    rw are (all_joined MentionIsBytes before behind (first (all_front TokenIsBytes us vs split))
-    (second (all_behind TokenIsBytes us vs split)))
+    let split : Each IsReal (us ++ vs) = subst (Each IsReal) parts all in
+    rw are (each-append MentionIsBytes before behind (first (each-left IsReal us vs split))
+    (second (each-right IsReal us vs split)))
 
 -- one sentence and then another
 pub carried_then : {a b c d : ℕ} {A B : List Mention → List Lexeme → Type 0} → Carried a b A → Carried c d B

@@ -1,6 +1,5 @@
 -- The names of functions that are defined and called are bytes.
 use Rattle.std.proofs.Common.{ℕ, List, [], ◌∷◌, Some, None, subst}
-use Rattle.std.specs.List.{AllByRecursion}
 use Rattle.ir_model.specs.declared.op.Op.{Op}
 use Rattle.ir_model.specs.declared.op.Op.TheVariants.{Call, Ret}
 use Rattle.ir_model.specs.declared.function.Instr.{Instr}
@@ -14,8 +13,9 @@ use Rattle.ir_text.specs.Sites.{bare_op, bare_instr, bare_block, bare_function}
 use Rattle.ir_grammar.specs.Operations.{SpellsOp}
 use Rattle.ir_grammar.specs.Functions.{SpellsInstr, SpellsLine, SpellsInstrs, SpellsBlock, SpellsFunction}
 use Rattle.ir_print.proofs.QuotedNames.{AreBytes}
-use Rattle.ir_read_back.proofs.EachThing.{all_front, all_behind, each_weaker, all_of_map}
-use Rattle.ir_read_back.proofs.ByteNames.{TokenIsBytes, global_bytes}
+use Rattle.ir_read_back.proofs.EachThing.{each_weaker, all_of_map}
+use Rattle.ir_read_back.proofs.ByteNames.{global_bytes}
+use Rattle.ir_read_back.proofs.Real.{Each, IsReal, each-left, each-right}
 
 -- The name that an operation calls is bytes.
 abbrev pub OpIsBytes : Op → Type 0
@@ -26,32 +26,32 @@ abbrev pub InstrIsBytes : Instr → Type 0
 InstrIsBytes instr = OpIsBytes instr.op
 
 abbrev pub BlockIsBytes : Block → Type 0
-BlockIsBytes block = AllByRecursion InstrIsBytes block.instrs
+BlockIsBytes block = Each InstrIsBytes block.instrs
 
 -- So is each name that a function calls, and its own.
 pub record FunctionIsBytes (f : Function) : Type 0 where
   pub name : AreBytes f.name
-  pub blocks : AllByRecursion BlockIsBytes f.blocks
+  pub blocks : Each BlockIsBytes f.blocks
 
 -- ---- tokens that are bytes
 
 module _ {A B : List Mention → List Lexeme → Type 0} {ms : List Mention} {ts : List Lexeme} (s : (A ⊙ B) ms ts)
-    (bytes : AllByRecursion TokenIsBytes ts) where
-  front_bytes : AllByRecursion TokenIsBytes s.3.0
-  front_bytes = all_front TokenIsBytes s.3.0 s.3.1 (subst (AllByRecursion TokenIsBytes) s.3.2 bytes)
+    (bytes : Each IsReal ts) where
+  front_bytes : Each IsReal s.3.0
+  front_bytes = each-left IsReal s.3.0 s.3.1 (subst (Each IsReal) s.3.2 bytes)
 
-  rest_bytes : AllByRecursion TokenIsBytes s.3.1
-  rest_bytes = all_behind TokenIsBytes s.3.0 s.3.1 (subst (AllByRecursion TokenIsBytes) s.3.2 bytes)
+  rest_bytes : Each IsReal s.3.1
+  rest_bytes = each-right IsReal s.3.0 s.3.1 (subst (Each IsReal) s.3.2 bytes)
 
-pub name_in : (name : List ℕ) (ts : List Lexeme) → one (IsGlobal name) ts → AllByRecursion TokenIsBytes ts → AreBytes name
+pub name_in : (name : List ℕ) (ts : List Lexeme) → one (IsGlobal name) ts → Each IsReal ts → AreBytes name
 name_in name ts (t, only, is) bytes =
-    let all : AllByRecursion TokenIsBytes (t ∷ []) = subst (AllByRecursion TokenIsBytes) only bytes in
+    let all : Each IsReal (t ∷ []) = subst (Each IsReal) only bytes in
     global_bytes name t is all.0
 
 -- ---- operations and instructions
 
 op_bytes : (op : Op) (words : List (List ℕ)) (ms : List Mention) (ts : List Lexeme) → SpellsOp op words ms ts
-    → AllByRecursion TokenIsBytes ts → OpIsBytes op
+    → Each IsReal ts → OpIsBytes op
 op_bytes (Call ret callee args) words ms ts (tail, before, after, arguments, _, _, _, s) bytes =
     let call = s.3.4 in
     let passed = call.3.4 in
@@ -64,17 +64,17 @@ op_bytes (Ret (Some typed)) words ms ts spelled bytes = tt
 op_bytes _ words ms ts spelled bytes = tt
 
 instr_bytes : (instr : Instr) (ms : List Mention) (ts : List Lexeme) → SpellsInstr instr ms ts
-    → AllByRecursion TokenIsBytes ts → InstrIsBytes instr
+    → Each IsReal ts → InstrIsBytes instr
 instr_bytes instr ms ts s bytes =
     let op = s.3.4 in
     op_bytes instr.op instr.words op.0 op.3.0 op.3.3 (front_bytes op (rest_bytes s bytes))
 
 line_bytes : (instr : Instr) (ms : List Mention) (ts : List Lexeme) → SpellsLine instr ms ts
-    → AllByRecursion TokenIsBytes ts → InstrIsBytes instr
+    → Each IsReal ts → InstrIsBytes instr
 line_bytes instr ms ts s bytes = instr_bytes instr s.1 s.3.1 s.3.4 (rest_bytes s bytes)
 
 instrs_bytes : (instrs : List Instr) (ms : List Mention) (ts : List Lexeme) → SpellsInstrs instrs ms ts
-    → AllByRecursion TokenIsBytes ts → AllByRecursion InstrIsBytes instrs
+    → Each IsReal ts → Each InstrIsBytes instrs
 instrs_bytes [] ms ts spelled bytes = tt
 instrs_bytes (last ∷ []) ms ts (ends, s) bytes = (line_bytes last ms ts s bytes, tt)
 instrs_bytes (instr ∷ next ∷ more) ms ts (goes_on, s) bytes = (
@@ -84,7 +84,7 @@ instrs_bytes (instr ∷ next ∷ more) ms ts (goes_on, s) bytes = (
 )
 
 blocks_bytes : (blocks : List Block) (ms : List Mention) (ts : List Lexeme) → InOrder SpellsBlock blocks ms ts
-    → AllByRecursion TokenIsBytes ts → AllByRecursion BlockIsBytes blocks
+    → Each IsReal ts → Each BlockIsBytes blocks
 blocks_bytes [] ms ts spelled bytes = tt
 blocks_bytes (block ∷ blocks) ms ts s bytes =
     let instrs = s.3.3 in (
@@ -96,7 +96,7 @@ blocks_bytes (block ∷ blocks) ms ts s bytes =
 
 -- The names in a function that tokens of bytes spell are bytes.
 pub function_bytes : (f : Function) (ms : List Mention) (ts : List Lexeme) → SpellsFunction f ms ts
-    → AllByRecursion TokenIsBytes ts → FunctionIsBytes f
+    → Each IsReal ts → FunctionIsBytes f
 function_bytes f ms ts (before, after, _, _, _, _, s) bytes =
     let passed = s.3.4 in
     let kind = passed.3.4 in
