@@ -1,5 +1,5 @@
 -- Flags as they are printed.
-use Rattle.std.proofs.Common.{◌≡◌, ℕ, zero, suc, ◌<◌, Bool, true, false, ◌||◌, List, [], ◌∷◌, ◌++◌, map, length, codes, IsTrue, Contains, All, refl, sym, ap, ◌∙◌, subst, inl, inr, arith, bytes_eq, append_assoc}
+use Rattle.std.proofs.Common.{◌≡◌, ℕ, zero, suc, Bool, true, false, List, [], ◌∷◌, ◌++◌, codes, IsTrue, Contains, refl, sym, ◌∙◌, arith, bytes_eq, append_assoc}
 use Rattle.std.specs.List.{IsDistinct}
 use Rattle.std.proofs.lemmas.Bool.{false≢true, true≢false, or_parts}
 use Rattle.std.proofs.lemmas.List.{append-nil}
@@ -83,22 +83,31 @@ wraps_write : (nuw nsw : Bool) → Writes Anything (silent (SpellsWraps nuw nsw)
 wraps_write true true =
     let first = first_there (codes "nuw") (codes "nsw" ∷ []) in
     let second = second_there (codes "nuw") (codes "nsw") [] in
-    whole (word (codes "nuw") ∷ word (codes "nsw") ∷ [])
-    (both_wraps, two_flags both_wraps (codes "nuw") (codes "nsw") first second refl,
-    is_set both_wraps (codes "nuw") first, is_set both_wraps (codes "nsw") second)
+    whole (word (codes "nuw") ∷ word (codes "nsw") ∷ []) (
+      both_wraps,
+      two_flags both_wraps (codes "nuw") (codes "nsw") first second refl,
+      is_set both_wraps (codes "nuw") first,
+      is_set both_wraps (codes "nsw") second,
+    )
     (λ rest others tokens.
     behind_word nuw_is_word refl (behind_space (behind_word nsw_is_word refl (behind_space tokens))))
 wraps_write true false =
     let found : List (List ℕ) = codes "nuw" ∷ [] in
-    whole (word (codes "nuw") ∷ [])
-    (found, one_flag both_wraps (codes "nuw") (first_there (codes "nuw") (codes "nsw" ∷ [])),
-    is_set found (codes "nuw") (first_there (codes "nuw") []), is_not_set found (codes "nsw") refl)
+    whole (word (codes "nuw") ∷ []) (
+      found,
+      one_flag both_wraps (codes "nuw") (first_there (codes "nuw") (codes "nsw" ∷ [])),
+      is_set found (codes "nuw") (first_there (codes "nuw") []),
+      is_not_set found (codes "nsw") refl,
+    )
     (λ rest others tokens. behind_word nuw_is_word refl (behind_space tokens))
 wraps_write false true =
     let found : List (List ℕ) = codes "nsw" ∷ [] in
-    whole (word (codes "nsw") ∷ [])
-    (found, one_flag both_wraps (codes "nsw") (second_there (codes "nuw") (codes "nsw") []),
-    is_not_set found (codes "nuw") refl, is_set found (codes "nsw") (first_there (codes "nsw") []))
+    whole (word (codes "nsw") ∷ []) (
+      found,
+      one_flag both_wraps (codes "nsw") (second_there (codes "nuw") (codes "nsw") []),
+      is_not_set found (codes "nuw") refl,
+      is_set found (codes "nsw") (first_there (codes "nsw") []),
+    )
     (λ rest others tokens. behind_word nsw_is_word refl (behind_space tokens))
 wraps_write false false =
     whole [] ([], no_flags both_wraps, is_not_set [] (codes "nuw") refl, is_not_set [] (codes "nsw") refl)
@@ -111,9 +120,11 @@ pub inbounds_writes : (inbounds : Bool)
     → Writes Anything (silent (SpellsGepFlags inbounds)) [] (flag_word inbounds (codes "inbounds"))
 inbounds_writes true =
     let found : List (List ℕ) = codes "inbounds" ∷ [] in
-    whole (word (codes "inbounds") ∷ [])
-    (found, one_flag gep_words (codes "inbounds") (first_there (codes "inbounds") (codes "nuw" ∷ codes "nusw" ∷ [])),
-    is_set found (codes "inbounds") (first_there (codes "inbounds") []))
+    whole (word (codes "inbounds") ∷ []) (
+      found,
+      one_flag gep_words (codes "inbounds") (first_there (codes "inbounds") (codes "nuw" ∷ codes "nusw" ∷ [])),
+      is_set found (codes "inbounds") (first_there (codes "inbounds") []),
+    )
     (λ rest others tokens. behind_word inbounds_is_word refl (behind_space tokens))
 inbounds_writes false =
     whole [] ([], no_flags gep_words, is_not_set [] (codes "inbounds") refl) (λ rest others tokens. tokens)

@@ -1,21 +1,19 @@
 -- Lists as they are printed: one thing after another, and with commas between them.
 use Rattle.std.proofs.Common.{◌≡◌, ℕ, List, [], ◌∷◌, ◌++◌, map, flat_map, codes, refl, sym, ap, ◌∙◌, subst, append_assoc}
 use Rattle.std.proofs.lemmas.List.{append-nil, map-append}
-use Rattle.ir_text.specs.Tokens.{Lexeme}
-use Rattle.ir_text.specs.Mentions.{Mention, Mentioning, ◌⊙◌, silent, InOrder}
-use Rattle.ir_text.specs.Language.{nothing}
+use Rattle.ir_text.specs.Mentions.{Mention, Mentioning, ◌⊙◌, InOrder}
 use Rattle.ir_grammar.specs.Operations.{the_comma, WithCommas, Listing}
 use Rattle.ir_grammar.specs.Printing.{joined}
 use Rattle.ir_lex.proofs.Plain.{Stops}
 use Rattle.ir_read_back.proofs.Real.{Each, each-left, each-right}
-use Rattle.ir_read_back.proofs.Writes.{Leads, Rewrites, and_then, comma_then}
+use Rattle.ir_read_back.proofs.Writes.{Leads, Rewrites, and_then, comma_then, production_is}
 
 -- ---- of the images of things
 
 pub in_order_map : {X Y : Type 0} (Spells : Y → Mentioning) (f : X → Y) (xs : List X)
     → InOrder Spells (map f xs) ≡ InOrder (λ x. Spells (f x)) xs
 in_order_map Spells f [] = refl
-in_order_map Spells f (x ∷ xs) = 
+in_order_map Spells f (x ∷ xs) =
     ap {B = Mentioning} (λ more ms ts. (Spells (f x) ⊙ more) ms ts) (in_order_map Spells f xs)
 
 pub with_commas_map : {X Y : Type 0} (Spells : Y → Mentioning) (f : X → Y) (xs : List X)
@@ -24,6 +22,23 @@ with_commas_map Spells f [] = refl
 with_commas_map Spells f (x ∷ []) = refl
 with_commas_map Spells f (x ∷ y ∷ ys) =
     ap {B = Mentioning} (λ more ms ts. (Spells (f x) ⊙ the_comma ⊙ more) ms ts) (with_commas_map Spells f (y ∷ ys))
+
+-- Where each thing is taken twice.
+pub mapped_commas : {X : Type 0} {Behind : List ℕ → Type 0} {ms : List Mention} {text : List ℕ}
+    (Spells : X → Mentioning) (bare normal : X → X) (xs : List X)
+    → Rewrites Behind (WithCommas (λ x. Spells (bare x)) xs) (WithCommas (λ x. Spells (bare (normal x))) xs) ms text
+    → Rewrites Behind (WithCommas Spells (map bare xs)) (WithCommas Spells (map bare (map normal xs))) ms text
+mapped_commas Spells bare normal xs part =
+    production_is _ _ _ _ (sym (with_commas_map Spells bare xs))
+    (sym (with_commas_map Spells bare (map normal xs) ∙ with_commas_map (λ x. Spells (bare x)) normal xs)) part
+
+pub mapped_in_order : {X : Type 0} {Behind : List ℕ → Type 0} {ms : List Mention} {text : List ℕ}
+    (Spells : X → Mentioning) (bare normal : X → X) (xs : List X)
+    → Rewrites Behind (InOrder (λ x. Spells (bare x)) xs) (InOrder (λ x. Spells (bare (normal x))) xs) ms text
+    → Rewrites Behind (InOrder Spells (map bare xs)) (InOrder Spells (map bare (map normal xs))) ms text
+mapped_in_order Spells bare normal xs part =
+    production_is _ _ _ _ (sym (in_order_map Spells bare xs))
+    (sym (in_order_map Spells bare (map normal xs) ∙ in_order_map (λ x. Spells (bare x)) normal xs)) part
 
 pub map_flat_map : {X A B : Type 0} (f : A → B) (of : X → List A) (xs : List X)
     → map f (flat_map of xs) ≡ flat_map (λ x. map f (of x)) xs

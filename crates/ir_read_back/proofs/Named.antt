@@ -1,11 +1,12 @@
 -- What is shown of ids, and the names that it says.
-use Rattle.std.proofs.Common.{ℕ, ◌^◌, ◌<◌, List, [], unwrap_or, slice_get, Some}
+use Rattle.std.proofs.Common.{map, ℕ, ◌^◌, ◌<◌, List, [], unwrap_or, slice_get, Some}
 use Rattle.ir_text.specs.Written.{Name, Text, Number, Says, SaysGlobal}
 use Rattle.ir_text.specs.Mentions.{Mention}
 use Rattle.ir_text.specs.Mentions as mention
 use Rattle.ir_text.specs.Sites.{Site}
 use Rattle.ir_text.specs.Sites as site
 use Rattle.ir_grammar.specs.Printing.{Shown, name_text}
+use Rattle.ir_read_back.proofs.Real.{Each}
 
 -- the names that the ids of values, blocks and globals stand for
 pub record Names : Type 0 where
@@ -39,3 +40,10 @@ IsShown shown names (site.DefinesBlock b) = Shows (shown.labels b) (names.labels
 IsShown shown names (site.UsesBlock b) = Shows (shown.labels b) (names.labels b)
 IsShown shown names (site.UsesGlobal g) =
     SaysGlobal (name_text (unwrap_or (slice_get shown.globals g) [])) (names.globals g)
+
+-- So it is at sites, and what is mentioned there.
+abbrev pub AreShown : Shown → Names → List Site → Type 0
+AreShown shown names sites = Each (IsShown shown names) sites
+
+abbrev pub said_at : Names → List Site → List Mention
+said_at names sites = map (mention_at names) sites

@@ -1,19 +1,17 @@
 -- Numbers as they are printed.
-use Rattle.std.proofs.Common.{◌≡◌, ℕ, zero, suc, ◌*◌, ◌^◌, ◌<◌, ◌%◌, Bool, true, false, eqb, cond, List, [], ◌∷◌, ℤ, pos, negsuc, arith, codes, refl, sym, subst, ⊎_elim, ◌⊎◌, inl, inr}
+use Rattle.std.proofs.Common.{ℕ, zero, suc, ◌<◌, eqb, cond, List, [], ℤ, pos, arith, codes, refl, sym, subst, inl, inr}
 use Rattle.std.specs.Fmt.{signed_decimal}
 use Rattle.std.specs.Str.Parse.{signed_digits_value}
-use Rattle.std.proofs.lemmas.Bool.{cases_Bool, eqb-true, eqb-false}
+use Rattle.std.proofs.lemmas.Bool.{cases_Bool}
 use Rattle.std.proofs.lemmas.Int.{ints}
 use Rattle.scev_base.specs.Residue.{residue, reading}
 use Rattle.ir_model.specs.declared.types.IrType.{IrType}
 use Rattle.ir_model.specs.declared.types.IrType.TheVariants.{Void, Int, Ptr, Array}
-use Rattle.ir_text.specs.declared.token.TokenKind.{TokenKind}
 use Rattle.ir_text.specs.declared.token.TokenKind.TheVariants.{Word, Numeral}
 use Rattle.ir_text.specs.Tokens.{Lexeme, HasForm, FitsSigned128}
-use Rattle.ir_text.specs.Listed.{word}
-use Rattle.ir_text.specs.Language.{one, keyword}
+use Rattle.ir_text.specs.Language.{one}
 use Rattle.ir_text.specs.Types.{IsNumeral}
-use Rattle.ir_text.specs.Mentions.{Mentioning, silent}
+use Rattle.ir_text.specs.Mentions.{silent}
 use Rattle.ir_grammar.specs.Operations.{SpellsNumber}
 use Rattle.ir_grammar.specs.Printing.{number_text}
 use Rattle.ir_lex.proofs.Plain.{Stops, Word-token, Numeral-token}
@@ -53,9 +51,11 @@ numeral_writes z fits =
 bit_writes : (r : ℕ) → r < 2
     → Writes Stops (silent (SpellsNumber (pos r))) [] (cond (eqb r 1) (codes "true") (codes "false"))
 bit_writes zero small =
-    token_writes Word (codes "false") (refl, inr (inr (refl, refl))) (λ next stops. Word-token _ next false_is_word stops)
+    token_writes Word (codes "false") (refl, inr (inr (refl, refl)))
+    (λ next stops. Word-token _ next false_is_word stops)
 bit_writes (suc zero) small =
-    token_writes Word (codes "true") (refl, inr (inl (refl, refl))) (λ next stops. Word-token _ next true_is_word stops)
+    token_writes Word (codes "true") (refl, inr (inl (refl, refl)))
+    (λ next stops. Word-token _ next true_is_word stops)
 bit_writes (suc (suc r)) small = absurd (omega arith)
 
 int_writes : (width : ℕ) (n : ℤ) → FitsSigned128 n

@@ -1,5 +1,5 @@
 -- The signed reading of a number of 128 bits is one again, at every width.
-use Rattle.std.proofs.Common.{◌≡◌, ℕ, suc, ◌+◌, ◌-◌, ◌*◌, ◌^◌, ◌<◌, ◌≤◌, ◌%◌, ltb, ℤ, pos, negsuc, neg_ℤ, ◌≤ℤ◌, arith, subst, sym, ⊎_elim}
+use Rattle.std.proofs.Common.{ℕ, ◌*◌, ◌^◌, ◌<◌, ◌≤◌, ℤ, pos, negsuc, arith, subst, sym, ⊎_elim}
 use Rattle.std.proofs.Math.Pow.{pow_mono}
 use Rattle.std.proofs.lemmas.Bool.{cases_lt}
 use Rattle.std.proofs.lemmas.Nat.{pow_pos, mod_below}
@@ -20,7 +20,8 @@ narrow : (w r : ℕ) → w < 128 → r < 2 ^ w → FitsSigned128 (reading w r)
 narrow w r small below =
     let most : 2 ^ w ≤ 2 ^ 127 = pow_mono {i = w} {j = 127} (omega arith) in
     ⊎_elim
-    (λ (low : 2 * r < 2 ^ w). subst FitsSigned128 (sym (reading_low w r low)) (omega (arith, ints), omega (arith, ints)))
+    (λ (low : 2 * r < 2 ^ w). subst FitsSigned128 (sym (reading_low w r low))
+    (omega (arith, ints), omega (arith, ints)))
     (λ (high : 2 ^ w ≤ 2 * r). subst FitsSigned128 (sym (reading_high w r high below))
     (omega (arith, ints), omega (arith, ints)))
     (cases_lt (2 * r) (2 ^ w))

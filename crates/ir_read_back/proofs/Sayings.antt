@@ -1,5 +1,5 @@
 -- Names as they are printed, behind a sigil or before a colon, are tokens that say them.
-use Rattle.std.proofs.Common.{◌≡◌, ℕ, ◌^◌, ◌<◌, drop, List, [], ◌∷◌, ◌++◌, IsTrue, refl, sym, ap, ◌∙◌, subst, ⊎_elim, ◌⊎◌, inl, inr, Some}
+use Rattle.std.proofs.Common.{◌≡◌, ℕ, ◌^◌, ◌<◌, drop, List, [], ◌∷◌, ◌++◌, IsTrue, refl, sym, ap, subst, ⊎_elim, ◌⊎◌, inl, inr, Some}
 use Rattle.std.specs.Str.Parse.{digits_value}
 use Rattle.std.proofs.lemmas.List.{same_from_push}
 use Rattle.ir_text.specs.declared.token.TokenKind.TheVariants.{Label, Local, Global}

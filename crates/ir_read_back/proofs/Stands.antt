@@ -140,10 +140,13 @@ untagged w next tag =
     (λ (h : (is_signed_number w ≡ true) × (begins_with_digit next ≡ false)). inr (h.0, refl)) tag
 
 tagged_again : (sigil : ℕ) (text next : List ℕ) → IsTagged sigil text [] → Stops next → IsTagged sigil text next
-tagged_again sigil text next tagged stops = (tagged.0, tagged.1,
-    ⊎_elim (λ (h : is_word tagged.0 ≡ true). inl h)
-    (λ (h : (is_signed_number tagged.0 ≡ true) × (begins_with_digit [] ≡ false)).
-    inr (h.0, no_digit_behind next stops)) tagged.2)
+tagged_again sigil text next tagged stops = (
+  tagged.0,
+  tagged.1,
+  ⊎_elim (λ (h : is_word tagged.0 ≡ true). inl h)
+      (λ (h : (is_signed_number tagged.0 ≡ true) × (begins_with_digit [] ≡ false)).
+      inr (h.0, no_digit_behind next stops)) tagged.2,
+)
 
 metadata_token : (text next w : List ℕ)
     → text ≡ 33 ∷ w
@@ -218,8 +221,11 @@ label_token text next name e is_name form fits =
     let all : text ++ next ≡ name ++ (58 ∷ next) = ap (λ l. l ++ next) e ∙ append_assoc name (58 ∷ []) next in
     let size : length text ≡ length name + 1 = ap length e ∙ length-append name (58 ∷ []) in
     token_from Label text next form fits
-    (λ m other at. omega (arith, size,
-    label_only name next is_name m other (subst (λ l. FormAt l m other) all at)))
+    (λ m other at. omega (
+      arith,
+      size,
+      label_only name next is_name m other (subst (λ l. FormAt l m other) all at),
+    ))
 
 -- strings
 string_only : (bs next : List ℕ)
@@ -234,7 +240,8 @@ string_only bs next string stops m other at =
     let no_label : begins_label s ≡ false = false_from_ne_true _
     (λ label. no_colon_behind next stops
     (sym (behind (34 ∷ bs) next (name_len s) name) ∙ (label-colon s label).1)) in
-    let size : quoted_len s ≡ suc (length bs) = quoted_len-quote (bs ++ next) ∙ string_len-whole (34 ∷ bs) next string in
+    let size : quoted_len s ≡ suc (length bs) =
+    quoted_len-quote (bs ++ next) ∙ string_len-whole (34 ∷ bs) next string in
     let plain = only_plain 34 (bs ++ next) m other quote-no_sigil at in
     omega (arith, size, at_most m (quoted_len s) other Quoted (only_quoted s no_label (omega arith) m other plain))
 
@@ -256,8 +263,12 @@ byte_string_only bs next string m other at =
     let size : quoted_len s ≡ suc (string_len (34 ∷ (bs ++ next))) =
     quoted_len-c (34 ∷ (bs ++ next)) (omega arith) in
     let plain = only_plain 99 (34 ∷ (bs ++ next)) m other (begins_word-no_sigil 99 c_begins) at in
-    omega (arith, size, whole,
-    at_most m (quoted_len s) other Quoted (only_quoted s no_label (omega arith) m other plain))
+    omega (
+      arith,
+      size,
+      whole,
+      at_most m (quoted_len s) other Quoted (only_quoted s no_label (omega arith) m other plain),
+    )
 
 is_first_quote : (text : List ℕ) → IsString text → (bs : List ℕ) × (text ≡ 34 ∷ bs) × IsString (34 ∷ bs)
 is_first_quote text string = (string.0 ++ 34 ∷ [], string.1, (string.0, refl, string.2))
@@ -272,13 +283,19 @@ quoted_token text next is form fits stops =
     ⊎_elim
     (λ (string : IsString text). let q = is_first_quote text string in
     token_from Quoted text next form fits
-    (λ m other at. omega (arith, ap length q.1,
-    string_only q.0 next q.2 stops m other (subst (λ t. FormAt (t ++ next) m other) q.1 at))))
+    (λ m other at. omega (
+      arith,
+      ap length q.1,
+      string_only q.0 next q.2 stops m other (subst (λ t. FormAt (t ++ next) m other) q.1 at),
+    )))
     (λ (c : (string : List ℕ) × (text ≡ 99 ∷ string) × IsString string). let q = is_first_quote c.0 c.2 in
     let all : text ≡ 99 ∷ 34 ∷ q.0 = c.1 ∙ ap (λ t. 99 ∷ t) q.1 in
     token_from Quoted text next form fits
-    (λ m other at. omega (arith, ap length all,
-    byte_string_only q.0 next q.2 m other (subst (λ t. FormAt (t ++ next) m other) all at))))
+    (λ m other at. omega (
+      arith,
+      ap length all,
+      byte_string_only q.0 next q.2 m other (subst (λ t. FormAt (t ++ next) m other) all at),
+    )))
     is
 
 -- three dots
@@ -353,8 +370,11 @@ stands (Sign b) text next form fits stops =
     subst (λ t. IsTokenAt (Sign b) t next) (sym form.0) (Sign-token b next form.1)
 stands Dots text next form fits stops =
     token_from Dots text next form fits
-    (λ m other at. omega (arith, ap length form,
-    dots_only next stops m other (subst (λ t. FormAt (t ++ next) m other) form at)))
+    (λ m other at. omega (
+      arith,
+      ap length form,
+      dots_only next stops m other (subst (λ t. FormAt (t ++ next) m other) form at),
+    ))
 
 -- A token has its form with nothing behind it too.
 alone : (kind : TokenKind) (text next : List ℕ) → HasForm kind text next → HasForm kind text []

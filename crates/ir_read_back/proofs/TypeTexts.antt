@@ -1,27 +1,24 @@
 -- Types as they are printed.
-use Rattle.std.proofs.Common.{◌≡◌, ◌≢◌, ℕ, suc, ◌+◌, ◌^◌, ◌<◌, ◌≤◌, true, false, bytes_eq, List, [], ◌∷◌, ◌++◌, length, ℤ, pos, arith, codes, refl, sym, ap, ◌∙◌, subst, IsTrue, append_assoc}
-use Rattle.std.specs.Fmt.{decimal, signed_decimal}
+use Rattle.std.proofs.Common.{◌≡◌, ◌≢◌, ℕ, ◌^◌, ◌<◌, true, false, bytes_eq, List, [], ◌∷◌, length, pos, arith, codes, refl, sym, ap, subst, IsTrue}
+use Rattle.std.specs.Fmt.{decimal}
 use Rattle.std.specs.List.{list_all}
 use Rattle.std.proofs.lemmas.Int.{ints}
 use Rattle.std.proofs.lemmas.Bool.{and_parts, and_from, or_left, or_right}
 use Rattle.ir_model.specs.declared.types.IrType.{IrType}
 use Rattle.ir_model.specs.declared.types.IrType.TheVariants.{Void, Int, Ptr, Array}
-use Rattle.ir_text.specs.declared.token.TokenKind.{TokenKind}
 use Rattle.ir_text.specs.declared.token.TokenKind.TheVariants.{Word, Numeral}
 use Rattle.ir_text.specs.Bytes.{is_letter, is_digit, begins_word, goes_on_word}
 use Rattle.ir_text.specs.Names.{dots, is_word}
 use Rattle.ir_text.specs.Tokens.{Lexeme, FitsSigned128}
-use Rattle.ir_text.specs.Listed.{word, sign}
-use Rattle.ir_text.specs.Language.{Language, one, keyword}
-use Rattle.ir_text.specs.Types.{IsNumeral, IsIntText, IsIntType, SpellsElements, SpellsType, SpellsTypeOf}
-use Rattle.ir_text.specs.Mentions.{Mentioning, silent}
+use Rattle.ir_text.specs.Language.{one}
+use Rattle.ir_text.specs.Types.{IsNumeral, IsIntText, IsIntType, SpellsElements, SpellsType}
+use Rattle.ir_text.specs.Mentions.{silent}
 use Rattle.ir_grammar.specs.Operations.{the_type}
 use Rattle.ir_grammar.specs.Printing.{elements_text, type_text}
 use Rattle.ir_lex.proofs.Plain.{Stops, Word-token, Numeral-token}
 use Rattle.ir_lex.proofs.LongestWord.{word-from}
 use Rattle.ir_read_back.proofs.Words.{x_is_word, void_is_word, ptr_is_word, opening_bracket_is_sign, closing_bracket_is_sign}
-use Rattle.ir_read_back.proofs.Numerals.{AreDigitsOf, decimal_digits, numeral_of}
-use Rattle.ir_read_back.proofs.Steps.{behind_space, behind_token, behind_sign, behind_word}
+use Rattle.ir_read_back.proofs.Numerals.{decimal_digits, numeral_of}
 use Rattle.ir_read_back.proofs.Writes.{Writes, Rewrites, token_writes, silently, word_ends, word_then, sign_then, sign_ends, space_then, stop_then}
 
 digit_goes_on : (ds : List ℕ) → list_all is_digit ds ≡ true → list_all goes_on_word ds ≡ true

@@ -4,11 +4,9 @@ use Rattle.scev_base.specs.declared.pred.Pred.{Pred}
 use Rattle.scev_base.specs.declared.pred.Pred.TheVariants as pred
 use Rattle.ir_model.specs.declared.op.BinOp.{BinOp}
 use Rattle.ir_model.specs.declared.op.BinOp.TheVariants as binary
-use Rattle.ir_model.specs.declared.op.CastOp.{CastOp}
-use Rattle.ir_model.specs.declared.op.CastOp.TheVariants as cast
 use Rattle.ir_text.specs.Bytes.{is_letter, is_digit, begins_word, goes_on_word, is_sign}
 use Rattle.ir_text.specs.Names.{is_word}
-use Rattle.ir_grammar.specs.Operations.{binary_text, pred_text, cast_text}
+use Rattle.ir_grammar.specs.Operations.{binary_text, pred_text}
 
 pub define_is_word : IsTrue (is_word (codes "define"))
 unfolding is_word begins_word goes_on_word is_letter is_digit
@@ -150,6 +148,18 @@ pub constant_is_word : IsTrue (is_word (codes "constant"))
 unfolding is_word begins_word goes_on_word is_letter is_digit
 constant_is_word = refl
 
+pub zext_is_word : IsTrue (is_word (codes "zext"))
+unfolding is_word begins_word goes_on_word is_letter is_digit
+zext_is_word = refl
+
+pub sext_is_word : IsTrue (is_word (codes "sext"))
+unfolding is_word begins_word goes_on_word is_letter is_digit
+sext_is_word = refl
+
+pub trunc_is_word : IsTrue (is_word (codes "trunc"))
+unfolding is_word begins_word goes_on_word is_letter is_digit
+trunc_is_word = refl
+
 pub binary_text_is_word : (op : BinOp) → IsTrue (is_word (binary_text op))
 unfolding is_word begins_word goes_on_word is_letter is_digit
 binary_text_is_word binary.Add = refl
@@ -178,12 +188,6 @@ pred_text_is_word pred.Sgt = refl
 pred_text_is_word pred.Sge = refl
 pred_text_is_word pred.Slt = refl
 pred_text_is_word pred.Sle = refl
-
-pub cast_text_is_word : (op : CastOp) → IsTrue (is_word (cast_text op))
-unfolding is_word begins_word goes_on_word is_letter is_digit
-cast_text_is_word cast.Zext = refl
-cast_text_is_word cast.Sext = refl
-cast_text_is_word cast.Trunc = refl
 
 pub comma_is_sign : IsTrue (is_sign 44)
 unfolding is_sign

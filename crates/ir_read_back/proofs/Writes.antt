@@ -51,7 +51,11 @@ pub before_stop : {Old New : Mentioning} {ms : List Mention} {text : List ℕ}
 before_stop part = record {
   writes = λ old ts spelled real.
       let whole = part.writes old ts spelled real in
-      record { lexemes = whole.lexemes; spelled = whole.spelled; lexed = λ rest others stops tokens. whole.lexed rest others tt tokens };
+      record {
+        lexemes = whole.lexemes;
+        spelled = whole.spelled;
+        lexed = λ rest others stops tokens. whole.lexed rest others tt tokens;
+      };
 }
 
 -- ---- one after another
@@ -197,7 +201,8 @@ pub left_out_then : {Behind : List ℕ → Type 0} {A B B' : Mentioning} {L : La
     → Rewrites Behind B B' ns b
     → Rewrites Behind (A ⊙ B) (silent L ⊙ B') ns b
 left_out_then none second =
-    whole_then {a = []} (always (record { lexemes = []; spelled = (refl, none); lexed = λ rest others any tokens. tokens })) second
+    whole_then {a = []}
+    (always (record { lexemes = []; spelled = (refl, none); lexed = λ rest others any tokens. tokens })) second
 
 -- ---- languages without mentions
 
@@ -212,3 +217,47 @@ silently both = record {
       let own = all.spelled.3 in
       record { lexemes = all.lexemes; spelled = (refl, (own.0, own.1, own.2, own.3.1, own.4.1)); lexed = all.lexed };
 }
+
+-- ---- the same, seen otherwise
+
+-- A text that is the same.
+pub text_is : {Behind : List ℕ → Type 0} {A A' : Mentioning} {ms : List Mention} (a b : List ℕ) → a ≡ b
+    → Rewrites Behind A A' ms a
+    → Rewrites Behind A A' ms b
+text_is {Behind} {A} {A'} {ms} a b e part = subst (λ t. Rewrites Behind A A' ms t) e part
+
+-- Mentions that are the same.
+pub mentions_are : {Behind : List ℕ → Type 0} {A A' : Mentioning} {text : List ℕ} (ms ns : List Mention) → ms ≡ ns
+    → Rewrites Behind A A' ms text
+    → Rewrites Behind A A' ns text
+mentions_are {Behind} {A} {A'} {text} ms ns e part = subst (λ n. Rewrites Behind A A' n text) e part
+
+-- Productions that are the same.
+pub production_is : {Behind : List ℕ → Type 0} {ms : List Mention} {text : List ℕ} (A B A' B' : Mentioning)
+    → A ≡ B
+    → A' ≡ B'
+    → Rewrites Behind A A' ms text
+    → Rewrites Behind B B' ms text
+production_is {Behind} {ms} {text} A B A' B' e e' part =
+    subst (λ New. Rewrites Behind B New ms text) e' (subst (λ Old. Rewrites Behind Old A' ms text) e part)
+
+-- A fact beside a production stays.
+pub beside : {Behind : List ℕ → Type 0} {A A' : Mentioning} {ms : List Mention} {text : List ℕ} (P : Type 0)
+    → Rewrites Behind A A' ms text
+    → Rewrites Behind (λ ms ts. P × A ms ts) (λ ms ts. P × A' ms ts) ms text
+beside P part = record {
+  writes = λ old ts spelled real.
+      let all = part.writes old ts spelled.1 real in
+      record { lexemes = all.lexemes; spelled = (spelled.0, all.spelled); lexed = all.lexed };
+}
+
+-- Two parts that are one production, and another one behind them.
+pub pair_then : {Before Behind : List ℕ → Type 0} {A A' B B' C C' : Mentioning} {ms ns : List Mention} {a b c : List ℕ}
+    → Leads Before c Behind
+    → Rewrites Stops A A' [] a
+    → Rewrites Before B B' ms b
+    → Rewrites Behind C C' ns c
+    → Rewrites Behind ((A ⊙ B) ⊙ C) ((A' ⊙ B') ⊙ C') (ms ++ ns) (a ++ (32 ∷ (b ++ c)))
+pair_then {a = a} {b = b} {c = c} leads first second third =
+    text_is ((a ++ (32 ∷ b)) ++ c) (a ++ (32 ∷ (b ++ c))) (append_assoc a (32 ∷ b) c)
+    (and_then leads (space_then first second) third)
