@@ -7,7 +7,6 @@ use Rattle.ir_text.specs.Written.{Name, Text, Number, unescaped, IsQuoted, Says,
 use Rattle.ir_text.specs.Mentions.{Mention, DefinesValue, UsesValue, DefinesBlock, UsesBlock, UsesGlobal}
 use Rattle.ir_print.proofs.Seen.{tested}
 use Rattle.ir_print.proofs.QuotedNames.{AreBytes}
-use Rattle.ir_read_back.proofs.Real.{IsReal}
 
 -- ---- lists of bytes
 
@@ -96,18 +95,18 @@ said_global_bytes written name (inl (word, is)) are = bytes_from is are
 said_global_bytes written name (inr (inl (number, is))) are = bytes_from is are
 said_global_bytes written name (inr (inr quoted)) are = quoted_bytes written name quoted are
 
-pub local_bytes : (name : Name) (t : Lexeme) → IsLocal name t → IsReal t → NameIsBytes name
-local_bytes name t (kind, written, is, says) real =
-    said_bytes written name says (bytes_rest 37 written (bytes_from is real.bytes))
+pub local_bytes : (name : Name) (t : Lexeme) → IsLocal name t → AreBytes t.text → NameIsBytes name
+local_bytes name t (kind, written, is, says) are =
+    said_bytes written name says (bytes_rest 37 written (bytes_from is are))
 
-pub label_bytes : (name : Name) (t : Lexeme) → IsLabel name t → IsReal t → NameIsBytes name
-label_bytes name t (kind, written, is, says) real =
-    said_bytes written name says (bytes_front written (58 ∷ []) (bytes_from is real.bytes))
+pub label_bytes : (name : Name) (t : Lexeme) → IsLabel name t → AreBytes t.text → NameIsBytes name
+label_bytes name t (kind, written, is, says) are =
+    said_bytes written name says (bytes_front written (58 ∷ []) (bytes_from is are))
 
-pub global_bytes : (name : List ℕ) (t : Lexeme) → IsGlobal name t → IsReal t → AreBytes name
-global_bytes name t (kind, written, is, says) real =
-    said_global_bytes written name says (bytes_rest 64 written (bytes_from is real.bytes))
+pub global_bytes : (name : List ℕ) (t : Lexeme) → IsGlobal name t → AreBytes t.text → AreBytes name
+global_bytes name t (kind, written, is, says) are =
+    said_global_bytes written name says (bytes_rest 64 written (bytes_from is are))
 
-pub byte_string_bytes : (bytes : List ℕ) (t : Lexeme) → IsByteString bytes t → IsReal t → AreBytes bytes
-byte_string_bytes bytes t (kind, text, is, quoted) real =
-    quoted_bytes text bytes quoted (bytes_rest 99 text (bytes_from is real.bytes))
+pub byte_string_bytes : (bytes : List ℕ) (t : Lexeme) → IsByteString bytes t → AreBytes t.text → AreBytes bytes
+byte_string_bytes bytes t (kind, text, is, quoted) are =
+    quoted_bytes text bytes quoted (bytes_rest 99 text (bytes_from is are))

@@ -142,4 +142,5 @@ module _ (globals : List (List ℕ)) (ms : List Mention) (f : Function) (numbere
       (λ b. Occurs sites (Block_ b)) (label_ids sites) told.labels (labels_occur sites)) in
       let names : Each AreBytes (map (global_name globals) (global_ids sites)) =
       subst (Each AreBytes) told.global_names_are (global_names_bytes (named 0 ms) (named_bytes ms 0 bytes)) in
-      shown_within globals f most sites values labels (all_of_map AreBytes (global_name globals) (global_ids sites) names)
+      shown_within globals f most sites values labels
+      (all_of_map AreBytes (global_name globals) (global_ids sites) names)

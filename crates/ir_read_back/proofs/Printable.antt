@@ -1,90 +1,48 @@
 -- What a text of bytes spells can be printed: what is shown of its ids says their names.
 use Rattle.std.proofs.Common.{◌++◌, ◌^◌, suc, ◌≡◌, ℕ, ◌≤◌, List, [], ◌∷◌, length, refl, sym, ap, subst, arith, length-append}
-use Rattle.ir_model.specs.declared.function.Function.{Function}
 use Rattle.ir_model.specs.declared.item.Item.{Item}
 use Rattle.ir_model.specs.declared.item.Item.TheVariants as item
-use Rattle.ir_model.specs.declared.item.Global_.{Global_}
-use Rattle.ir_model.specs.declared.item.Declare.{Declare}
 use Rattle.ir_model.specs.declared.item.Module.{Module}
 use Rattle.ir_text.specs.Tokens.{Lexeme, Placed}
-use Rattle.ir_text.specs.Language.{Language, ◌·◌}
 use Rattle.ir_text.specs.Mentions.{Mention}
 use Rattle.ir_text.specs.Sites.{Draft, function_sites, without_ids, bare_function}
-use Rattle.ir_grammar.specs.Items.{SpellsDraft, SpellsItems, SpellsGlobal, SpellsDeclare}
-use Rattle.ir_grammar.specs.Functions.{SpellsFunction}
+use Rattle.ir_grammar.specs.Items.{SpellsDraft, SpellsItems}
 use Rattle.ir_grammar.specs.Numbering.{EachMatches, NumberedFunction, IsNumberedItem}
 use Rattle.ir_grammar.specs.Printing.{shown_in}
 use Rattle.ir_grammar.specs.Spelled.{lexemes_of, Spells}
 use Rattle.ir_read_back.proofs.Printed.{names_of}
 use Rattle.ir_print.proofs.QuotedNames.{AreBytes}
+use Rattle.ir_read_back.proofs.Carried.{Carries}
 use Rattle.ir_read_back.proofs.CarriedFunctions.{function_carries}
-use Rattle.ir_read_back.proofs.FunctionBytes.{FunctionIsBytes, name_in, function_bytes, bare_function_bytes}
 use Rattle.ir_read_back.proofs.Fitting.{mentions_within}
 use Rattle.ir_read_back.proofs.ShownNames.{sites_shown}
-use Rattle.ir_read_back.proofs.Named.{IsShown}
+use Rattle.ir_read_back.proofs.Named.{AreShown}
 use Rattle.ir_read_back.proofs.LexedBytes.{tokens_fewer, tokens_are_real}
 use Rattle.ir_read_back.proofs.Real.{Each, AreReal, IsReal, each-left, each-right}
 
--- The names in a function are bytes, and what is printed for its ids says their names; the name of another item is
--- bytes.
-abbrev pub ItemFits : List (List ℕ) → Item → Type 0
-ItemFits globals (item.PassedOn text) = Unit {0}
-ItemFits globals (item.Global g) = AreBytes g.name
-ItemFits globals (item.Declare d) = AreBytes d.name
-ItemFits globals (item.Define f) =
-    FunctionIsBytes f × Each (IsShown (shown_in globals f) (names_of globals f)) (function_sites f)
+-- What is shown of a function's ids says the names that are printed for them.
+abbrev pub IdsAreShown : List (List ℕ) → Item → Type 0
+IdsAreShown globals (item.Define f) = AreShown (shown_in globals f) (names_of globals f) (function_sites f)
+IdsAreShown globals _ = Unit {0}
 
--- Some real tokens spell the item without its ids, and what is printed of it fits.
+-- Some real tokens spell the item without its ids, and its ids are shown.
 pub record IsPrintable (globals : List (List ℕ)) (x : Item) : Type 0 where
   pub mentions : List Mention
   pub lexemes : List Lexeme
   pub spelled : SpellsDraft (without_ids x) mentions lexemes
   pub real : AreReal lexemes
-  pub fits : ItemFits globals x
+  pub shown : IdsAreShown globals x
 
--- ---- one item
-
-global_name_bytes : (g : Global_) (ts : List Lexeme) → SpellsGlobal g ts → AreReal ts
-    → AreBytes g.name
-global_name_bytes g ts (pieces, (us, vs, parts, named, rest)) real =
-    name_in g.name us named (each-left IsReal us vs (subst AreReal parts real))
-
--- what stands behind the first part of some tokens
-behind_first : {A B : Language} {ts : List Lexeme} → (s : (A · B) ts) → AreReal ts
-    → AreReal s.1
-behind_first s real = each-right IsReal s.0 s.1 (subst AreReal s.2 real)
-
-declared_name_bytes : (d : Declare) (ts : List Lexeme) → SpellsDeclare d ts → AreReal ts
-    → AreBytes d.name
-declared_name_bytes d ts (kept, s) real =
-    let pairs = s.4 in
-    let words = pairs.4 in
-    let kind = words.4 in
-    let name = kind.4 in
-    let behind = behind_first kind (behind_first words (behind_first pairs (behind_first s real))) in
-    name_in d.name name.0 name.3 (each-left IsReal name.0 name.1 (subst AreReal name.2
-    behind))
-
-function_fits : (globals : List (List ℕ)) (f : Function) (ms : List Mention) (ts : List Lexeme)
-    → SpellsFunction (bare_function f) ms ts → NumberedFunction globals ms (item.Define f)
-    → AreReal ts → length ts ≤ 2 ^ 64 → ItemFits globals (item.Define f)
-function_fits globals f ms ts spelled numbered real few =
-    let carries = function_carries (bare_function f) ms ts spelled in (
-      bare_function_bytes f (function_bytes (bare_function f) ms ts spelled real),
-      sites_shown globals f (mentions_within globals ms f numbered (carries.bytes real) (2 ^ 64)
-          (omega (arith, carries.room))),
-    )
-
-item_fits : (globals : List (List ℕ)) (x : Item) (ms : List Mention) (ts : List Lexeme)
-    → SpellsDraft (without_ids x) ms ts → NumberedFunction globals ms x → AreReal ts
-    → length ts ≤ 2 ^ 64 → ItemFits globals x
-item_fits globals (item.PassedOn text) ms ts spelled numbered real few = tt
-item_fits globals (item.Global g) ms ts spelled numbered real few = global_name_bytes g ts spelled.1 real
-item_fits globals (item.Declare d) ms ts spelled numbered real few = declared_name_bytes d ts spelled.1 real
-item_fits globals (item.Define f) ms ts spelled numbered real few =
-    function_fits globals f ms ts spelled numbered real few
-
--- ---- all items
+ids_shown : (globals : List (List ℕ)) (x : Item) (ms : List Mention) (ts : List Lexeme)
+    → SpellsDraft (without_ids x) ms ts → NumberedFunction globals ms x → AreReal ts → length ts ≤ 2 ^ 64
+    → IdsAreShown globals x
+ids_shown globals (item.PassedOn text) ms ts spelled numbered real few = tt
+ids_shown globals (item.Global g) ms ts spelled numbered real few = tt
+ids_shown globals (item.Declare d) ms ts spelled numbered real few = tt
+ids_shown globals (item.Define f) ms ts spelled numbered real few =
+    let carries : Carries 0 1 ms ts = function_carries (bare_function f) ms ts spelled in
+    sites_shown globals f (mentions_within globals ms f numbered (carries.bytes real) (2 ^ 64)
+    (omega (arith, carries.room)))
 
 items_printable : (globals : List (List ℕ)) (drafts : List Draft) (xs : List Item) (ts : List Lexeme)
     → SpellsItems drafts ts → EachMatches (IsNumberedItem globals) drafts xs → AreReal ts
@@ -92,7 +50,8 @@ items_printable : (globals : List (List ℕ)) (drafts : List Draft) (xs : List I
 items_printable globals [] [] ts spelled match real few = tt
 items_printable globals (draft ∷ drafts) (x ∷ xs) ts s match real few =
     let one = s.4 in
-    let split : AreReal (one.0 ++ one.1) = subst AreReal one.2 (behind_first s real) in
+    let rest : AreReal s.1 = each-right IsReal s.0 s.1 (subst AreReal s.2 real) in
+    let split : AreReal (one.0 ++ one.1) = subst AreReal one.2 rest in
     let here : AreReal one.0 = each-left IsReal one.0 one.1 split in
     let bare : SpellsDraft (without_ids x) draft.mentions one.0 =
     subst (λ (y : Item). SpellsDraft y draft.mentions one.0) (sym match.0.0) one.3 in
@@ -105,14 +64,12 @@ items_printable globals (draft ∷ drafts) (x ∷ xs) ts s match real few =
         lexemes = one.0;
         spelled = bare;
         real = here;
-        fits = item_fits globals x draft.mentions one.0 bare match.0.1 here first;
+        shown = ids_shown globals x draft.mentions one.0 bare match.0.1 here first;
       },
       items_printable globals drafts xs one.1 one.4 match.1 (each-right IsReal one.0 one.1 split) later,
     )
 items_printable globals [] (x ∷ xs) ts spelled match real few = absurd match
 items_printable globals (draft ∷ drafts) [] ts spelled match real few = absurd match
-
--- ---- one module
 
 as_many_lexemes : (placed : List Placed) → length (lexemes_of placed) ≡ length placed
 as_many_lexemes [] = refl

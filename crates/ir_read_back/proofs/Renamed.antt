@@ -11,7 +11,7 @@ use native.Mathlib.Omega.{arith}
 use Rattle.ir_read_back.proofs.EachThing.{at_place, filter_of_map, first_each, map_map, same_map}
 use Rattle.ir_read_back.proofs.Real.{Each}
 
-same_number : (i j : ℕ) → eqb i j ≡ true → i ≡ j
+pub same_number : (i j : ℕ) → eqb i j ≡ true → i ≡ j
 same_number i j e = grind (arith, nat_tests)
 
 -- ---- names of ids

@@ -7,7 +7,7 @@ use Rattle.ir_text.specs.Sites as site
 use Rattle.ir_grammar.specs.Printing.{Value, Block_, named_value, named_block, number_of, text_or_number, shown_in}
 use Rattle.ir_print.proofs.QuotedNames.{name_says, name_says_global}
 use Rattle.ir_read_back.proofs.Numerals.{decimal_digits, is_number_of}
-use Rattle.ir_read_back.proofs.Named.{Shows, IsShown}
+use Rattle.ir_read_back.proofs.Named.{Shows, IsShown, AreShown}
 use Rattle.ir_read_back.proofs.Printed.{name_or_number, global_name, names_of, shown_mention, function_mentions}
 use Rattle.ir_read_back.proofs.Real.{Each}
 use Rattle.ir_read_back.proofs.EachThing.{each_weaker, all_of_map}
@@ -31,7 +31,7 @@ site_shown globals f (site.UsesGlobal g) bytes = name_says_global (global_name g
 -- So it is at each site.
 pub sites_shown : (globals : List (List ℕ)) (f : Function)
     → Each (MentionWithin (2 ^ 64)) (function_mentions globals f)
-    → Each (IsShown (shown_in globals f) (names_of globals f)) (function_sites f)
+    → AreShown (shown_in globals f) (names_of globals f) (function_sites f)
 sites_shown globals f within =
     each_weaker (λ s. MentionWithin (2 ^ 64) (shown_mention globals f s)) (IsShown (shown_in globals f)
     (names_of globals f)) (site_shown globals f) (function_sites f)

@@ -218,7 +218,8 @@ module _ (tables : Tables) where
   told_step (mention.UsesBlock name) _ sites ms e told = absurd e
   told_step (mention.UsesGlobal name) _ sites ms e told = absurd e
 
-  pub told_all : (sites : List Site) (ms : List Mention) → EachMatches (StandsFor tables) sites ms → Told tables sites ms
+  pub told_all : (sites : List Site) (ms : List Mention) → EachMatches (StandsFor tables) sites ms
+      → Told tables sites ms
   told_all [] [] match = record {
     values = tt;
     labels = tt;

@@ -1,5 +1,5 @@
 -- A text that spells the items of a module as they are printed spells the module with the numerals that are printed.
-use Rattle.std.proofs.Common.{◌≡◌, ℕ, List, map, length, sym, subst}
+use Rattle.std.proofs.Common.{ℕ, List, map, sym, subst}
 use Rattle.ir_model.specs.declared.item.Module.{Module}
 use Rattle.ir_text.specs.Tokens.{Lexeme, AreLexemes}
 use Rattle.ir_grammar.specs.Items.{SpellsItems}
