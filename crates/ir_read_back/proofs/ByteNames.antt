@@ -85,10 +85,6 @@ MentionIsBytes (DefinesBlock (Some name)) = NameIsBytes name
 MentionIsBytes (UsesBlock name) = NameIsBytes name
 MentionIsBytes (UsesGlobal name) = AreBytes name
 
--- The text of a token is bytes.
-abbrev pub TokenIsBytes : Lexeme → Type 0
-TokenIsBytes t = AreBytes t.text
-
 said_bytes : (written : List ℕ) (name : Name) → Says written name → AreBytes written → NameIsBytes name
 said_bytes written (Text name) (inl (word, is)) are = bytes_from is are
 said_bytes written (Text name) (inr quoted) are = quoted_bytes written name quoted are
@@ -99,18 +95,18 @@ said_global_bytes written name (inl (word, is)) are = bytes_from is are
 said_global_bytes written name (inr (inl (number, is))) are = bytes_from is are
 said_global_bytes written name (inr (inr quoted)) are = quoted_bytes written name quoted are
 
-pub local_bytes : (name : Name) (t : Lexeme) → IsLocal name t → TokenIsBytes t → NameIsBytes name
+pub local_bytes : (name : Name) (t : Lexeme) → IsLocal name t → AreBytes t.text → NameIsBytes name
 local_bytes name t (kind, written, is, says) are =
     said_bytes written name says (bytes_rest 37 written (bytes_from is are))
 
-pub label_bytes : (name : Name) (t : Lexeme) → IsLabel name t → TokenIsBytes t → NameIsBytes name
+pub label_bytes : (name : Name) (t : Lexeme) → IsLabel name t → AreBytes t.text → NameIsBytes name
 label_bytes name t (kind, written, is, says) are =
     said_bytes written name says (bytes_front written (58 ∷ []) (bytes_from is are))
 
-pub global_bytes : (name : List ℕ) (t : Lexeme) → IsGlobal name t → TokenIsBytes t → AreBytes name
+pub global_bytes : (name : List ℕ) (t : Lexeme) → IsGlobal name t → AreBytes t.text → AreBytes name
 global_bytes name t (kind, written, is, says) are =
     said_global_bytes written name says (bytes_rest 64 written (bytes_from is are))
 
-pub byte_string_bytes : (bytes : List ℕ) (t : Lexeme) → IsByteString bytes t → TokenIsBytes t → AreBytes bytes
+pub byte_string_bytes : (bytes : List ℕ) (t : Lexeme) → IsByteString bytes t → AreBytes t.text → AreBytes bytes
 byte_string_bytes bytes t (kind, text, is, quoted) are =
     quoted_bytes text bytes quoted (bytes_rest 99 text (bytes_from is are))

@@ -15,7 +15,7 @@ use Rattle.ir_text.specs.Mentions.{Mention, defines_value, defines_block, unwrit
 use Rattle.ir_text.specs.Types.{IsScalar}
 use Rattle.ir_grammar.specs.Operations.{the_type}
 use Rattle.ir_grammar.specs.Functions.{is_terminator, MayHaveResult, GivesValue, SpellsResult, SpellsInstr, SpellsLine, SpellsInstrs, SpellsBlock, SpellsParam, SpellsFunction}
-use Rattle.ir_read_back.proofs.Carried.{Carries, Carried, silent_carries, unwritten_carries, new_value_carries, new_block_carries, carried_silent, carried_then, carried_even, carried_word, carried_in_order, carried_listing, carried_op}
+use Rattle.ir_read_back.proofs.Carried.{Carries, Carried, silent_carries, unwritten_carries, new_value_carries, new_block_carries, quiet, ◌⊳◌, carried_even, fixed_word, carried_in_order, carried_listing, carried_op}
 
 -- ---- results
 
@@ -39,7 +39,7 @@ result_carries : (op : Op) (result : Option ValueId) (ms : List Mention) (ts : L
     → SpellsResult op result ms ts → Carries 1 0 ms ts
 result_carries op None ms ts spelled = weaker ms ts (silent_carries ms ts spelled.1.0)
 result_carries op (Some v) ms ts (zero, inl (may, s)) =
-    weaker ms ts ((carried_then carried_value carried_silent).holds ms ts s)
+    weaker ms ts ((carried_value ⊳ quiet).holds ms ts s)
 result_carries op (Some v) ms ts (zero, inr (gives, s)) = unwritten_carries (DefinesValue None) tt ms ts s
 
 -- What ends a block has none.
@@ -55,16 +55,16 @@ carried_instr : (instr : Instr) → Carried 0 0 (SpellsInstr instr)
 carried_instr instr =
     let result : Carried 1 0 (SpellsResult instr.op instr.result) =
     record { holds = result_carries instr.op instr.result } in
-    carried_even (carried_then result (carried_then (carried_op instr.op instr.words) carried_silent))
+    carried_even (result ⊳ carried_op instr.op instr.words ⊳ quiet)
 
 carried_line : (instr : Instr) → Carried 0 0 (SpellsLine instr)
-carried_line instr = carried_then carried_silent (carried_instr instr)
+carried_line instr = quiet ⊳ carried_instr instr
 
 carried_last : (instr : Instr) → is_terminator instr.op ≡ true → Carried 0 1 (SpellsLine instr)
 carried_last instr ends =
     let result : Carried 0 0 (SpellsResult instr.op instr.result) =
     record { holds = λ ms ts. no_result_carries instr.op instr.result ms ts ends } in
-    carried_then carried_silent (carried_then result (carried_then (carried_op instr.op instr.words) carried_silent))
+    quiet ⊳ result ⊳ carried_op instr.op instr.words ⊳ quiet
 
 -- ---- blocks
 
@@ -74,7 +74,7 @@ instrs_carry [] ms ts spelled = absurd spelled
 instrs_carry (last ∷ []) ms ts (ends, spelled) = (carried_last last ends).holds ms ts spelled
 instrs_carry (instr ∷ next ∷ more) ms ts (goes_on, spelled) =
     let rest : Carried 0 1 (SpellsInstrs (next ∷ more)) = record { holds = instrs_carry (next ∷ more) } in
-    (carried_then (carried_line instr) rest).holds ms ts spelled
+    (carried_line instr ⊳ rest).holds ms ts spelled
 
 label_carries : (ms : List Mention) (ts : List Lexeme) → defines_block ms ts ⊎ unwritten (DefinesBlock None) ms ts
     → Carries 1 0 ms ts
@@ -87,7 +87,7 @@ carried_block block =
     × (defines_block ms ts ⊎ unwritten (DefinesBlock None) ms ts)) =
     record { holds = λ ms ts s. label_carries ms ts s.1 } in
     let instrs : Carried 0 1 (SpellsInstrs block.instrs) = record { holds = instrs_carry block.instrs } in
-    carried_even (carried_then label instrs)
+    carried_even (label ⊳ instrs)
 
 -- ---- functions
 
@@ -113,14 +113,11 @@ carried_param param =
     let name : Carried 1 0 (λ ms ts. (param.value.0 ≡ 0)
     × (defines_value ms ts ⊎ unwritten (DefinesValue None) ms ts)) =
     record { holds = λ ms ts s. name_carries ms ts s.1 } in
-    carried_even (carried_then kind (carried_then carried_silent name))
+    carried_even (kind ⊳ quiet ⊳ name)
 
 -- A function has a token more than mentions.
 pub function_carries : (f : Function) (ms : List Mention) (ts : List Lexeme) → SpellsFunction f ms ts
     → Carries 0 1 ms ts
 function_carries f ms ts (before, after, _, _, _, _, spelled) =
-    (carried_then carried_word (carried_then carried_silent (carried_then carried_silent (carried_then carried_silent
-    (carried_then carried_silent (carried_then (carried_listing SpellsParam carried_param f.params)
-    (carried_then carried_silent (carried_then carried_silent (carried_then carried_silent
-    (carried_then carried_silent (carried_then (carried_in_order SpellsBlock carried_block f.blocks)
-    carried_silent))))))))))).holds ms ts spelled
+    (fixed_word ⊳ quiet ⊳ quiet ⊳ quiet ⊳ quiet ⊳ carried_listing SpellsParam carried_param f.params ⊳ quiet ⊳ quiet
+    ⊳ quiet ⊳ quiet ⊳ carried_in_order SpellsBlock carried_block f.blocks ⊳ quiet).holds ms ts spelled

@@ -1,6 +1,5 @@
--- A text has no more tokens than bytes, and the texts of its tokens are bytes.
+-- A text has no more tokens than bytes, and its tokens are real.
 use Rattle.std.proofs.Common.{ℕ, ◌<◌, ◌≤◌, List, [], ◌∷◌, ◌++◌, length, inl, inr, ap, arith, length-append, IsTrue}
-use Rattle.std.specs.List.{AllByRecursion}
 use Rattle.std.proofs.lemmas.Bool.{false≢true}
 use Rattle.ir_text.specs.declared.token.TokenKind.{TokenKind}
 use Rattle.ir_text.specs.declared.token.TokenKind.TheVariants.{Word, Label, Numeral, Local, Global, Metadata, Group, Quoted, Sign, Dots}
@@ -8,7 +7,8 @@ use Rattle.ir_text.specs.Names.{is_word, is_signed_number}
 use Rattle.ir_text.specs.Tokens.{Placed, HasForm, Lexed, ends_whole, ends_bad, goes_on}
 use Rattle.ir_grammar.specs.Spelled.{lexemes_of}
 use Rattle.ir_print.proofs.QuotedNames.{AreBytes}
-use Rattle.ir_read_back.proofs.ByteNames.{TokenIsBytes, bytes_front, bytes_behind, bytes_from}
+use Rattle.ir_read_back.proofs.ByteNames.{bytes_front, bytes_behind, bytes_from}
+use Rattle.ir_read_back.proofs.Real.{AreReal}
 
 word_is_long : (text : List ℕ) → IsTrue (is_word text) → 0 < length text
 unfolding is_word
@@ -50,10 +50,13 @@ tokens_fewer (goes_on kind gap text rest are is_gap is_token others) =
       length-append text rest,
     )
 
-pub tokens_are_bytes : {at end : ℕ} {bytes : List ℕ} {placed : List Placed} → Lexed at bytes placed end
-    → AreBytes bytes → AllByRecursion TokenIsBytes (lexemes_of placed)
-tokens_are_bytes (ends_whole gap rest are is_gap is_end) all = tt
-tokens_are_bytes (ends_bad gap rest are is_gap is_bad) all = tt
-tokens_are_bytes (goes_on kind gap text rest are is_gap is_token others) all =
-    let behind : AreBytes (text ++ rest) = bytes_behind gap (text ++ rest) (bytes_from are all) in
-    (bytes_front text rest behind, tokens_are_bytes others (bytes_behind text rest behind))
+-- Tokens of a text of bytes are real.
+pub tokens_are_real : {at end : ℕ} {bytes : List ℕ} {placed : List Placed} → Lexed at bytes placed end
+    → AreBytes bytes → AreReal (lexemes_of placed)
+tokens_are_real (ends_whole gap rest are is_gap is_end) all = tt
+tokens_are_real (ends_bad gap rest are is_gap is_bad) all = tt
+tokens_are_real (goes_on kind gap text rest are is_gap is_token others) all =
+    let behind : AreBytes (text ++ rest) = bytes_behind gap (text ++ rest) (bytes_from are all) in (
+      record { next = rest; token = is_token; bytes = bytes_front text rest behind },
+      tokens_are_real others (bytes_behind text rest behind),
+    )

@@ -1,9 +1,8 @@
 -- The names that are printed for a function's ids tell them apart.
-use Rattle.std.proofs.Common.{◌≡◌, ℕ, ◌+◌, ◌<◌, ◌≤◌, eqb, true, List, [], ◌∷◌, ◌++◌, map, length, Option, Some, None, ◌⊎◌, is_none, refl, sym, ap, ◌∙◌, inl, inr, slice_get, arith, length-append}
-use Rattle.std.specs.List.{filter, AllByRecursion}
+use Rattle.std.proofs.Common.{◌≡◌, ℕ, ◌+◌, ◌<◌, ◌≤◌, true, List, [], ◌∷◌, ◌++◌, map, length, Option, Some, None, ◌⊎◌, is_none, refl, sym, ap, ◌∙◌, inl, inr, slice_get, arith, length-append}
+use Rattle.std.specs.List.{filter}
 use Rattle.std.specs.Option.{unwrap_or}
 use Rattle.std.proofs.lemmas.Bool.{false≢true, eq-eqb}
-use Rattle.std.proofs.lemmas.Bool.Decides.{nat_tests}
 use Rattle.std.proofs.lemmas.Option.{same_Some, none-some}
 use Rattle.std.proofs.lemmas.Slice.Eq.{bytes_eq-Decides}
 use Rattle.ir_model.specs.declared.function.Function.{Function}
@@ -12,14 +11,12 @@ use Rattle.ir_text.specs.Sites.{Site, DefinesValue, UsesValue, DefinesBlock, Use
 use Rattle.ir_grammar.specs.Numbering.{first_occurrences, same_name, text_of_name}
 use Rattle.ir_grammar.specs.Printing.{Thing, Value, Block_, same_thing, is_unnamed, defined_things, used_things, unnamed_things, number_of}
 use Rattle.ir_grammar.proofs.OnePlace.{one_place}
-use Rattle.ir_read_back.specs.Printed.{name_or_number}
-use Rattle.ir_read_back.proofs.Renamed.{moved_places, moved_tables}
+use Rattle.ir_read_back.proofs.Printed.{name_or_number}
+use Rattle.ir_read_back.proofs.Renamed.{same_number, moved_places, moved_tables}
 use Rattle.ir_read_back.proofs.Among.{Among, in_first, in_second, in_filter, in_first_occurrences, stands_there, place_within, filter_shorter, first_shorter}
+use Rattle.ir_read_back.proofs.Real.{Each}
 
 -- ---- things
-
-same_number : (a b : ℕ) → eqb a b ≡ true → a ≡ b
-same_number a b e = grind (arith, nat_tests)
 
 thing_itself : (t : Thing) → same_thing t t ≡ true
 thing_itself (Value a) = eq-eqb a a refl
@@ -155,7 +152,7 @@ module _ (f : Function) (thing : ℕ → Thing) (thing_apart : (i j : ℕ) → t
       shown_text (text i) (number_of f (thing i)) ∙ (known.text_is
       ∙ ap (λ (found : Option Name). text_of_name (unwrap_or found (Number 0))) (sym known.place))
 
-  module _ (ids : List ℕ) (are : names ≡ map tabled ids) (known : AllByRecursion Known ids) where
+  module _ (ids : List ℕ) (are : names ≡ map tabled ids) (known : Each Known ids) where
     tabled_places : (i : ℕ) → Known i → slice_get (first_occurrences same_name (map tabled ids)) i ≡ Some (tabled i)
     tabled_places i knows =
         ap (λ (ns : List Name). slice_get (first_occurrences same_name ns) i) (sym are) ∙ table_place i knows

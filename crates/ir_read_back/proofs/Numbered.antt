@@ -1,6 +1,5 @@
 -- The text that is printed of a function has the ids of the function.
 use Rattle.std.proofs.Common.{suc, length, ◌≡◌, ℕ, List, [], ◌∷◌, map, Option, Some, None, refl, sym, ap, ◌∙◌, slice_get}
-use Rattle.std.specs.List.{AllByRecursion}
 use Rattle.std.specs.Option.{option_map, unwrap_or}
 use Rattle.std.proofs.lemmas.Option.{slice_get-map, same_Some, none-some}
 use Rattle.ir_model.specs.declared.function.Function.{Function}
@@ -13,11 +12,12 @@ use Rattle.ir_text.specs.Sites as site
 use Rattle.ir_grammar.specs.Numbering.{Tables, tables_of, named, value_names, label_names, global_names, first_occurrences, same_name, text_of_name, StandsFor, EachMatches, IsFirstPlace, IsNumbered}
 use Rattle.ir_grammar.specs.Printing.{Thing, Value, Block_, named_value, named_block}
 use Rattle.ir_read_back.specs.Normal.{normal_function}
-use Rattle.ir_read_back.specs.Printed.{value_name, label_name, global_name, shown_mention, function_mentions}
+use Rattle.ir_read_back.proofs.Printed.{value_name, label_name, global_name, shown_mention, function_mentions}
 use Rattle.ir_read_back.proofs.NamesApart.{Occurs, in_unnamed, Known, printed_places, printed_texts}
 use Rattle.ir_read_back.proofs.Typed.{types_normal, sites_normal}
 use Rattle.ir_read_back.proofs.Told.{value_ids, label_ids, global_ids, named_shown, shown_values, shown_labels, shown_globals, values_occur, labels_occur, HasPlace, Told, told_all}
 use Rattle.ir_read_back.proofs.EachThing.{each_both, each_weaker}
+use Rattle.ir_read_back.proofs.Real.{Each}
 
 -- ---- the tables' text names
 
@@ -55,8 +55,8 @@ label_apart i j e = cc
 shown_match : (globals : List (List ℕ)) (f : Function) (tables : Tables) (KnownValue KnownLabel : ℕ → Type 0)
     → ((v : ℕ) → KnownValue v → slice_get tables.values v ≡ Some (value_name f v))
     → ((b : ℕ) → KnownLabel b → slice_get tables.labels b ≡ Some (label_name f b))
-    → (sites : List Site) → AllByRecursion KnownValue (value_ids sites) → AllByRecursion KnownLabel (label_ids sites)
-    → AllByRecursion (λ g. IsFirstPlace tables.globals (global_name globals g) g) (global_ids sites)
+    → (sites : List Site) → Each KnownValue (value_ids sites) → Each KnownLabel (label_ids sites)
+    → Each (λ g. IsFirstPlace tables.globals (global_name globals g) g) (global_ids sites)
     → EachMatches (StandsFor tables) sites (map (shown_mention globals f) sites)
 shown_match globals f tables P Q value label [] vs bs gs = tt
 shown_match globals f tables P Q value label (site.DefinesValue v ∷ sites) vs bs gs =
@@ -117,7 +117,7 @@ module _ (globals : List (List ℕ)) (ms : List Mention) (f : Function) (numbere
     numbered = in_unnamed f (Value v) known.1;
   }
 
-  known_values : AllByRecursion KnownValue (value_ids sites)
+  known_values : Each KnownValue (value_ids sites)
   known_values =
       each_weaker (λ v. HasPlace tables.values v × Occurs sites (Value v)) KnownValue known_value (value_ids sites)
       (each_both (HasPlace tables.values) (λ v. Occurs sites (Value v)) (value_ids sites) told.values
@@ -131,7 +131,7 @@ module _ (globals : List (List ℕ)) (ms : List Mention) (f : Function) (numbere
     numbered = in_unnamed f (Block_ b) known.1;
   }
 
-  known_labels : AllByRecursion KnownLabel (label_ids sites)
+  known_labels : Each KnownLabel (label_ids sites)
   known_labels =
       each_weaker (λ b. HasPlace tables.labels b × Occurs sites (Block_ b)) KnownLabel known_label (label_ids sites)
       (each_both (HasPlace tables.labels) (λ b. Occurs sites (Block_ b)) (label_ids sites) told.labels

@@ -1,6 +1,5 @@
 -- The printed text of a module has the ids of the module.
 use Rattle.std.proofs.Common.{◌≡◌, ℕ, List, [], ◌∷◌, map, refl, sym, ap, subst, ◌∙◌}
-use Rattle.std.specs.List.{AllByRecursion}
 use Rattle.ir_model.specs.declared.item.Item.{Item}
 use Rattle.ir_model.specs.declared.item.Item.TheVariants as item
 use Rattle.ir_model.specs.declared.item.Module.{Module}
@@ -10,8 +9,9 @@ use Rattle.ir_text.specs.Sites.{Draft, without_ids}
 use Rattle.ir_grammar.specs.Items.{SpellsDraft, SpellsItems}
 use Rattle.ir_grammar.specs.Numbering.{global_names, defined_by, defined_globals, used_globals, global_table, EachMatches, NumberedFunction, IsNumberedItem, IsNumberedModule}
 use Rattle.ir_read_back.specs.Normal.{normal_item, normal}
-use Rattle.ir_read_back.specs.Printed.{item_mentions, printed_draft}
+use Rattle.ir_read_back.proofs.Printed.{item_mentions, printed_draft}
 use Rattle.ir_read_back.proofs.Numbered.{same_globals, normal_numbered_as_shown}
+use Rattle.ir_read_back.proofs.Real.{Each}
 
 -- ---- what mentions names
 
@@ -31,7 +31,7 @@ draft_mentions (item.Define f) ms ts spelled = tt
 
 -- So it is in drafts that tokens spell.
 pub functions_mention : (drafts : List Draft) (ts : List Lexeme) → SpellsItems drafts ts
-    → AllByRecursion FunctionsMention drafts
+    → Each FunctionsMention drafts
 functions_mention [] ts spelled = tt
 functions_mention (draft ∷ drafts) ts (us, vs, are, dropped, (own, behind, parts, spelled, others, apart)) =
     (draft_mentions draft.item draft.mentions own spelled, functions_mention drafts behind others)
@@ -72,7 +72,7 @@ module _ (globals : List (List ℕ)) where
   defined_alike [] (x ∷ xs) match = absurd match
   defined_alike (draft ∷ drafts) [] match = absurd match
 
-  used_alike : (drafts : List Draft) (xs : List Item) → AllByRecursion FunctionsMention drafts
+  used_alike : (drafts : List Draft) (xs : List Item) → Each FunctionsMention drafts
       → EachMatches (IsNumberedItem globals) drafts xs
       → used_globals (map (printed_draft globals) xs) ≡ used_globals drafts
   used_alike [] [] silent match = refl
@@ -98,7 +98,7 @@ table_alike drafts others defined used = rw (defined, used) refl
 -- ---- one module
 
 -- The module with the numerals that are printed has the ids of what is printed of the module.
-pub normal_numbered : (drafts : List Draft) (m : Module) → AllByRecursion FunctionsMention drafts
+pub normal_numbered : (drafts : List Draft) (m : Module) → Each FunctionsMention drafts
     → IsNumberedModule drafts m → IsNumberedModule (map (printed_draft m.globals) m.items) (normal m)
 unfolding normal
 normal_numbered drafts m silent numbered = record {

@@ -1,6 +1,5 @@
 -- Ids by the first occurrences of their names: other names that tell the same ids apart have the same ids.
 use Rattle.std.proofs.Common.{◌≡◌, ℕ, eqb, Bool, true, not, List, [], ◌∷◌, map, Option, Some, None, refl, sym, ap, subst, ◌∙◌, inl, inr, slice_get}
-use Rattle.std.specs.List.{AllByRecursion}
 use Rattle.std.specs.Option.{option_map}
 use Rattle.std.proofs.lemmas.Bool.{false≢true, eq-eqb}
 use Rattle.std.proofs.lemmas.Bool.Decides.{nat_tests}
@@ -10,8 +9,9 @@ use Rattle.ir_grammar.proofs.OnePlace.{one_place}
 use Rattle.ir_print.proofs.Seen.{tested}
 use native.Mathlib.Omega.{arith}
 use Rattle.ir_read_back.proofs.EachThing.{at_place, filter_of_map, first_each, map_map, same_map}
+use Rattle.ir_read_back.proofs.Real.{Each}
 
-same_number : (i j : ℕ) → eqb i j ≡ true → i ≡ j
+pub same_number : (i j : ℕ) → eqb i j ≡ true → i ≡ j
 same_number i j e = grind (arith, nat_tests)
 
 -- ---- names of ids
@@ -35,7 +35,7 @@ module _ {A : Type 0} (same : A → A → Bool) (itself : (x : A) → same x x �
     ]
   ]
 
-  first_of_map : (g : ℕ → A) → TellIds g → (ids : List ℕ) → AllByRecursion Q ids
+  first_of_map : (g : ℕ → A) → TellIds g → (ids : List ℕ) → Each Q ids
       → first_occurrences same (map g ids) ≡ map g (first_occurrences eqb ids)
   first_of_map g apart [] each = refl
   first_of_map g apart (i ∷ ids) each =
@@ -52,7 +52,7 @@ module _ {A : Type 0} (same : A → A → Bool) (itself : (x : A) → same x x �
   places_tell h ids places i j p q e =
       one_place same itself (map h ids) i j (h j) (places i p ∙ ap (λ (x : A). Some x) e) (places j q)
 
-  moved_place : (g h : ℕ → A) (F : List ℕ) → AllByRecursion Q F → TellIds h → (i : ℕ) → Q i → (found : Option ℕ)
+  moved_place : (g h : ℕ → A) (F : List ℕ) → Each Q F → TellIds h → (i : ℕ) → Q i → (found : Option ℕ)
       → slice_get F i ≡ found → option_map h found ≡ Some (h i) → option_map g found ≡ Some (g i)
   moved_place g h F each apart i q None at e = absurd (none-some (h i) e)
   moved_place g h F each apart i q (Some k) at e =
@@ -60,7 +60,7 @@ module _ {A : Type 0} (same : A → A → Bool) (itself : (x : A) → same x x �
       ap (λ (n : ℕ). Some (g n)) same_id
 
   -- Where the ids are the places of some names, they are the places of others that tell them apart.
-  pub moved_places : (g h : ℕ → A) (ids : List ℕ) → AllByRecursion Q ids → TellIds g → ArePlaces h ids
+  pub moved_places : (g h : ℕ → A) (ids : List ℕ) → Each Q ids → TellIds g → ArePlaces h ids
       → ArePlaces g ids
   moved_places g h ids each apart places i q =
       let F : List ℕ = first_occurrences eqb ids in
@@ -72,7 +72,7 @@ module _ {A : Type 0} (same : A → A → Bool) (itself : (x : A) → same x x �
       ∙ moved_place g h F (first_each Q eqb ids each) h_apart i q (slice_get F i) refl before)
 
   -- What is the same of both names of an id is the same in both tables.
-  pub moved_tables : {B : Type 0} (text : A → B) (g h : ℕ → A) (ids : List ℕ) → AllByRecursion Q ids → TellIds g
+  pub moved_tables : {B : Type 0} (text : A → B) (g h : ℕ → A) (ids : List ℕ) → Each Q ids → TellIds g
       → ArePlaces h ids → ((i : ℕ) → Q i → text (g i) ≡ text (h i))
       → map text (first_occurrences same (map g ids)) ≡ map text (first_occurrences same (map h ids))
   moved_tables {B} text g h ids each apart places texts =

@@ -1,6 +1,5 @@
 -- The ids of a function stand for what is mentioned, and for what is printed.
 use Rattle.std.proofs.Common.{◌≡◌, ℕ, List, [], ◌∷◌, map, length, Option, Some, None, refl, sym, ap, subst, inl, inr, slice_get, arith}
-use Rattle.std.specs.List.{AllByRecursion}
 use Rattle.std.specs.Option.{unwrap_or}
 use Rattle.ir_model.specs.declared.function.Function.{Function}
 use Rattle.ir_text.specs.Written.{Name, Number}
@@ -10,9 +9,10 @@ use Rattle.ir_text.specs.Sites.{Site, function_sites}
 use Rattle.ir_text.specs.Sites as site
 use Rattle.ir_grammar.specs.Numbering.{Tables, named, value_names, label_names, global_names, StandsFor, EachMatches, IsFirstPlace}
 use Rattle.ir_grammar.specs.Printing.{Thing, Value, Block_}
-use Rattle.ir_read_back.specs.Printed.{value_name, label_name, global_name, shown_mention}
+use Rattle.ir_read_back.proofs.Printed.{value_name, label_name, global_name, shown_mention}
 use Rattle.ir_read_back.proofs.NamesApart.{Occurs}
 use Rattle.ir_read_back.proofs.EachThing.{each_weaker}
+use Rattle.ir_read_back.proofs.Real.{Each}
 
 -- ---- the ids of one sort
 
@@ -94,11 +94,11 @@ one_more (site.UsesGlobal g) sites t occurs = occurs
 
 -- So it is with all ids of one sort.
 all_one_more : (thing : ℕ → Thing) (s : Site) (sites : List Site) (ids : List ℕ)
-    → AllByRecursion (λ i. Occurs sites (thing i)) ids → AllByRecursion (λ i. Occurs (s ∷ sites) (thing i)) ids
+    → Each (λ i. Occurs sites (thing i)) ids → Each (λ i. Occurs (s ∷ sites) (thing i)) ids
 all_one_more thing s sites ids =
     each_weaker (λ i. Occurs sites (thing i)) (λ i. Occurs (s ∷ sites) (thing i)) (λ i. one_more s sites (thing i)) ids
 
-pub values_occur : (sites : List Site) → AllByRecursion (λ v. Occurs sites (Value v)) (value_ids sites)
+pub values_occur : (sites : List Site) → Each (λ v. Occurs sites (Value v)) (value_ids sites)
 values_occur [] = tt
 values_occur (site.DefinesValue v ∷ sites) =
     (inl (inl refl), all_one_more Value (site.DefinesValue v) sites (value_ids sites) (values_occur sites))
@@ -111,7 +111,7 @@ values_occur (site.UsesBlock b ∷ sites) =
 values_occur (site.UsesGlobal g ∷ sites) =
     all_one_more Value (site.UsesGlobal g) sites (value_ids sites) (values_occur sites)
 
-pub labels_occur : (sites : List Site) → AllByRecursion (λ b. Occurs sites (Block_ b)) (label_ids sites)
+pub labels_occur : (sites : List Site) → Each (λ b. Occurs sites (Block_ b)) (label_ids sites)
 labels_occur [] = tt
 labels_occur (site.DefinesBlock b ∷ sites) =
     (inl (inl refl), all_one_more Block_ (site.DefinesBlock b) sites (label_ids sites) (labels_occur sites))
@@ -135,9 +135,9 @@ HasPlace names i = (name : Name) × (slice_get names i ≡ Some name)
 
 -- The ids have places in the tables, and the names that are mentioned are those that stand there.
 pub record Told (tables : Tables) (sites : List Site) (ms : List Mention) : Type 0 where
-  pub values : AllByRecursion (HasPlace tables.values) (value_ids sites)
-  pub labels : AllByRecursion (HasPlace tables.labels) (label_ids sites)
-  pub globals : AllByRecursion (λ g. IsFirstPlace tables.globals (global_name tables.globals g) g) (global_ids sites)
+  pub values : Each (HasPlace tables.values) (value_ids sites)
+  pub labels : Each (HasPlace tables.labels) (label_ids sites)
+  pub globals : Each (λ g. IsFirstPlace tables.globals (global_name tables.globals g) g) (global_ids sites)
   pub value_names_are : value_names ms ≡ map (name_at tables.values) (value_ids sites)
   pub label_names_are : label_names ms ≡ map (name_at tables.labels) (label_ids sites)
   pub global_names_are : global_names ms ≡ map (global_name tables.globals) (global_ids sites)
@@ -218,7 +218,8 @@ module _ (tables : Tables) where
   told_step (mention.UsesBlock name) _ sites ms e told = absurd e
   told_step (mention.UsesGlobal name) _ sites ms e told = absurd e
 
-  pub told_all : (sites : List Site) (ms : List Mention) → EachMatches (StandsFor tables) sites ms → Told tables sites ms
+  pub told_all : (sites : List Site) (ms : List Mention) → EachMatches (StandsFor tables) sites ms
+      → Told tables sites ms
   told_all [] [] match = record {
     values = tt;
     labels = tt;

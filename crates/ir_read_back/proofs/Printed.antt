@@ -5,11 +5,10 @@ use Rattle.ir_model.specs.declared.item.Item.{Item}
 use Rattle.ir_model.specs.declared.item.Item.TheVariants as item
 use Rattle.ir_text.specs.Written.{Name, Text, Number}
 use Rattle.ir_text.specs.Mentions.{Mention}
-use Rattle.ir_text.specs.Mentions as mention
 use Rattle.ir_text.specs.Sites.{Site, Draft, function_sites, without_ids}
-use Rattle.ir_text.specs.Sites as site
 use Rattle.ir_grammar.specs.Printing.{Value, Block_, named_value, named_block, number_of}
 use Rattle.ir_read_back.specs.Normal.{normal_item}
+use Rattle.ir_read_back.proofs.Named.{Names, mention_at}
 
 -- a text name, or else the number
 abbrev pub name_or_number : Option (List ℕ) → ℕ → Name
@@ -26,13 +25,13 @@ label_name f b = name_or_number (named_block f b) (number_of f (Block_ b))
 abbrev pub global_name : List (List ℕ) → ℕ → List ℕ
 global_name globals g = unwrap_or (slice_get globals g) []
 
+-- the names that are printed for a function's ids
+abbrev pub names_of : List (List ℕ) → Function → Names
+names_of globals f = record { values = value_name f; labels = label_name f; globals = global_name globals }
+
 -- the mention that is printed for an id
 abbrev pub shown_mention : List (List ℕ) → Function → Site → Mention
-shown_mention globals f (site.DefinesValue v) = mention.DefinesValue (Some (value_name f v))
-shown_mention globals f (site.UsesValue v) = mention.UsesValue (value_name f v)
-shown_mention globals f (site.DefinesBlock b) = mention.DefinesBlock (Some (label_name f b))
-shown_mention globals f (site.UsesBlock b) = mention.UsesBlock (label_name f b)
-shown_mention globals f (site.UsesGlobal g) = mention.UsesGlobal (global_name globals g)
+shown_mention globals f = mention_at (names_of globals f)
 
 abbrev pub function_mentions : List (List ℕ) → Function → List Mention
 function_mentions globals f = map (shown_mention globals f) (function_sites f)
