@@ -10,7 +10,8 @@ use Rattle.ir_text.specs.PassedOn.{SpellsWords, metadata_pairs}
 use Rattle.ir_grammar.specs.Items.{ListedByCommas, SpellsDeclaredParam, SpellsDeclare}
 use Rattle.ir_grammar.specs.Printing.{declared_text, declare_text}
 use Rattle.ir_lex.proofs.Plain.{Stops}
-use Rattle.ir_read_back.proofs.Lines.{line_then, global_name_rewrites, listed_rewrite}
+use Rattle.ir_read_back.proofs.GlobalNames as names
+use Rattle.ir_read_back.proofs.Lines.{line_then, listed_rewrite}
 use Rattle.ir_read_back.proofs.Passed.{words_before, words_behind, stops_behind_space}
 use Rattle.ir_read_back.proofs.TypeTexts.{type_rewrites}
 use Rattle.ir_read_back.proofs.Words.{declare_is_word, opening_parenthesis_is_sign, closing_parenthesis_is_sign}
@@ -33,7 +34,7 @@ kept_rewrites d =
     (silently (left_out_then none
     (silently (whole_then (words_before d.before)
     (silently (space_then (type_rewrites IsReturned d.ret)
-    (silently (and_then (λ rest any. refl) (global_name_rewrites d.name)
+    (silently (and_then (λ rest any. refl) (names.global_rewrites d.name)
     (silently (sign_then 40 opening_parenthesis_is_sign
     (silently (and_then (λ rest any. refl)
     (listed_rewrite SpellsDeclaredParam declared_text declared_param_rewrites d.params)

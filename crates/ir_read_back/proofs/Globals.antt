@@ -15,7 +15,8 @@ use Rattle.ir_lex.proofs.Plain.{Stops}
 use Rattle.ir_read_back.specs.Normal.{normal_initialiser, normal_global}
 use Rattle.ir_read_back.proofs.Inits.{init_rewrites}
 use Rattle.ir_read_back.proofs.LexedBytes.{token_is_long}
-use Rattle.ir_read_back.proofs.Lines.{runs_text, runs_rewrite, line_ends, global_name_rewrites}
+use Rattle.ir_read_back.proofs.GlobalNames as names
+use Rattle.ir_read_back.proofs.Lines.{runs_text, runs_rewrite, line_ends}
 use Rattle.ir_read_back.proofs.Passed.{passed_lexes, passed_rewrites}
 use Rattle.ir_read_back.proofs.Real.{IsReal, AreReal}
 use Rattle.ir_read_back.proofs.Steps.{behind_space}
@@ -103,7 +104,7 @@ SpellsWith pieces g = one (IsGlobal g.name) · punctuation 61 · (λ us. ArePiec
 rewrites_with : (pieces : List (List Lexeme)) (g : Global_)
     → Rewrites Anything (silent (SpellsWith pieces g)) (silent (SpellsWith pieces (normal_global g))) [] (global_text g)
 rewrites_with pieces g =
-    silently (space_then (global_name_rewrites g.name)
+    silently (space_then (names.global_rewrites g.name)
     (silently (sign_then 61 equals_is_sign (behind_a_space
     (silently (whole_then (before_rewrites pieces g.before)
     (silently (constant_then g.constant

@@ -99,7 +99,7 @@ byte_string_writes text are =
 read_bytes : (text : List ℕ) (ts : List Lexeme) → one (IsByteString text) ts → AreReal ts → AreBytes text
 read_bytes text ts (t, only, is) real =
     let all : AreReal (t ∷ []) = subst AreReal only real in
-    byte_string_bytes text t is all.0
+    byte_string_bytes text t is all.0.bytes
 
 -- ---- lists
 

@@ -21,7 +21,7 @@ numeral_is_long [] numeral = absurd (false≢true numeral)
 numeral_is_long (b ∷ bs) numeral = omega arith
 
 -- A token is no empty text.
-token_is_long : (kind : TokenKind) (text next : List ℕ) → HasForm kind text next → 0 < length text
+pub token_is_long : (kind : TokenKind) (text next : List ℕ) → HasForm kind text next → 0 < length text
 unfolding HasForm
 token_is_long Word text next form = word_is_long text form
 token_is_long Label text next (name, is, _) = omega (arith, ap length is, length-append name (58 ∷ []))

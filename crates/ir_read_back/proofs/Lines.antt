@@ -1,20 +1,15 @@
 -- What stands on a line of its own: its end, runs of words, parts with commas, and lines that are passed on.
-use Rattle.std.proofs.Common.{◌≡◌, ℕ, List, [], ◌∷◌, ◌++◌, codes, refl, sym, ap, subst, append_assoc}
+use Rattle.std.proofs.Common.{◌≡◌, ℕ, List, [], ◌∷◌, ◌++◌, codes, refl, append_assoc}
 use Rattle.std.specs.List.{flat_map}
 use Rattle.ir_text.specs.Tokens.{Lexeme, AreLexemes}
 use Rattle.ir_text.specs.Listed.{InSequence, SeparatedByCommas, sign}
-use Rattle.ir_text.specs.Language.{Language, ◌·◌, nothing, one, comma}
-use Rattle.ir_text.specs.Written.{IsGlobal}
+use Rattle.ir_text.specs.Language.{Language, ◌·◌, nothing, comma}
 use Rattle.ir_text.specs.Mentions.{Mention, Mentioning, silent}
 use Rattle.ir_text.specs.PassedOn.{passed_text, SpellsWords}
 use Rattle.ir_grammar.specs.Items.{passed_line, ListedByCommas}
-use Rattle.ir_grammar.specs.Printing.{name_text, joined, behind_space}
+use Rattle.ir_grammar.specs.Printing.{joined, behind_space}
 use Rattle.ir_lex.proofs.Plain.{Stops}
-use Rattle.ir_print.proofs.QuotedNames.{name_says_global}
-use Rattle.ir_read_back.proofs.ByteNames.{global_bytes}
 use Rattle.ir_read_back.proofs.Passed.{passed_rewrites, words_behind}
-use Rattle.ir_read_back.proofs.Real.{IsReal, AreReal}
-use Rattle.ir_read_back.proofs.Sayings.{global_writes}
 use Rattle.ir_read_back.proofs.Steps.{behind_line_feed}
 use Rattle.ir_read_back.proofs.Words.{comma_is_sign}
 use Rattle.ir_read_back.proofs.Writes.{Anything, Writes, Rewrites, silently, and_then, behind_a_space, sign_then, stop_then}
@@ -73,19 +68,6 @@ pub line_rewrites : (text : List ℕ)
     (silent (λ ts. passed_line ts × (text ≡ passed_text ts))) [] (text ++ codes "\n")
 line_rewrites text =
     line_then (passed_rewrites (λ t ts. passed_line ts × (t ≡ passed_text ts)) (λ t ts s. s.1) text)
-
--- ---- names of globals
-
-real_name : (name : List ℕ) (ts : List Lexeme) → one (IsGlobal name) ts → AreReal ts
-    → Writes Stops (silent (one (IsGlobal name))) [] (64 ∷ name_text name)
-real_name name ts (t, only, is) real =
-    let all : AreReal (t ∷ []) = subst AreReal only real in
-    global_writes (name_text name) name (name_says_global name (global_bytes name t is all.0))
-
--- A name behind `@` is printed as itself.
-pub global_name_rewrites : (name : List ℕ)
-    → Rewrites Stops (silent (one (IsGlobal name))) (silent (one (IsGlobal name))) [] (64 ∷ name_text name)
-global_name_rewrites name = record { writes = λ old ts spelled real. real_name name ts spelled.1 real }
 
 -- ---- runs of words behind commas
 
