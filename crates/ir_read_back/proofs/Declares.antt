@@ -1,5 +1,5 @@
 -- Declarations as they are printed.
-use Rattle.std.proofs.Common.{ℕ, refl, List, [], ◌∷◌, ◌++◌, codes}
+use Rattle.std.proofs.Common.{refl, [], codes}
 use Rattle.ir_model.specs.declared.item.DeclaredParam.{DeclaredParam}
 use Rattle.ir_model.specs.declared.item.Declare.{Declare}
 use Rattle.ir_text.specs.Language.{Language, ◌·◌, none, one, keyword, punctuation}

@@ -1,5 +1,5 @@
 -- Globals as they are printed.
-use Rattle.std.proofs.Common.{◌≡◌, ℕ, ◌<◌, Bool, true, false, if◌then◌else◌, List, [], ◌∷◌, ◌++◌, length, codes, refl, sym, ap, subst, Option, Some, None, arith, append_assoc}
+use Rattle.std.proofs.Common.{◌≡◌, ℕ, Bool, true, false, if◌then◌else◌, List, [], ◌∷◌, ◌++◌, length, codes, refl, sym, ap, subst, Option, Some, None, arith, append_assoc}
 use Rattle.ir_model.specs.declared.types.IrType.{IrType}
 use Rattle.ir_model.specs.declared.item.Global_.{Global_}
 use Rattle.ir_model.specs.declared.item.Init.{Init}
@@ -10,19 +10,19 @@ use Rattle.ir_text.specs.Mentions.{Mention, Mentioning, ◌⊙◌, silent}
 use Rattle.ir_text.specs.Types.{IsStored, SpellsTypeOf}
 use Rattle.ir_text.specs.PassedOn.{ArePieces, is_external, passed_text, spaced, attachments}
 use Rattle.ir_grammar.specs.Items.{SpellsInitialiser, constant_word, SpellsBehindCommas, SpellsGlobal}
-use Rattle.ir_grammar.specs.Printing.{before_space, type_text, initialiser_text, global_text}
+use Rattle.ir_grammar.specs.Printing.{before_space, initialiser_text, global_text}
 use Rattle.ir_lex.proofs.Plain.{Stops}
 use Rattle.ir_read_back.specs.Normal.{normal_initialiser, normal_global}
 use Rattle.ir_read_back.proofs.Inits.{init_rewrites}
 use Rattle.ir_read_back.proofs.LexedBytes.{token_is_long}
 use Rattle.ir_read_back.proofs.GlobalNames as names
 use Rattle.ir_read_back.proofs.Lines.{runs_text, runs_rewrite, line_ends}
-use Rattle.ir_read_back.proofs.Passed.{passed_lexes, passed_rewrites}
+use Rattle.ir_read_back.proofs.Passed.{passed_rewrites}
 use Rattle.ir_read_back.proofs.Real.{IsReal, AreReal}
 use Rattle.ir_read_back.proofs.Steps.{behind_space}
 use Rattle.ir_read_back.proofs.TypeTexts.{type_rewrites}
 use Rattle.ir_read_back.proofs.Words.{equals_is_sign, global_is_word, constant_is_word}
-use Rattle.ir_read_back.proofs.Writes.{Anything, Leads, Writes, Rewrites, silently, and_then, whole_then, space_then, word_then, sign_then, behind_a_space}
+use Rattle.ir_read_back.proofs.Writes.{Anything, Leads, Rewrites, silently, and_then, whole_then, space_then, word_then, sign_then, behind_a_space}
 
 -- ---- the words before
 

@@ -1,7 +1,7 @@
 -- Initialisers as they are printed.
 use Rattle.std.proofs.Common.{◌≡◌, ℕ, true, List, [], ◌∷◌, ◌++◌, map, codes, refl, sym, ap, subst, ◌∙◌, inr, append_assoc}
 use mathlib.Core.Former.{Count, Former, list, this, arity}
-use denote.Hole.Carrier.{shown, hidden, hidden-shown}
+use denote.Hole.Carrier.{shown, hidden-shown}
 use Rattle.ir_model.specs.declared.types.IrType.{IrType}
 use Rattle.ir_model.specs.declared.op.Operand.{Operand}
 use Rattle.ir_model.specs.declared.op.Operand.TheVariants as operand
@@ -12,21 +12,21 @@ use Rattle.ir_model.specs.declared.item.InitPart.{InitPart}
 use Rattle.ir_text.specs.declared.token.TokenKind.TheVariants.{Quoted}
 use Rattle.ir_text.specs.Names.{is_word}
 use Rattle.ir_text.specs.Bytes.{begins_word, goes_on_word, is_letter, is_digit}
-use Rattle.ir_text.specs.Tokens.{Lexeme, AreLexemes, HasForm, NumberFits}
+use Rattle.ir_text.specs.Tokens.{Lexeme, HasForm, NumberFits}
 use Rattle.ir_text.specs.Listed.{sign}
-use Rattle.ir_text.specs.Language.{Language, one, keyword}
+use Rattle.ir_text.specs.Language.{one}
 use Rattle.ir_text.specs.Written.{IsQuoted, IsByteString}
-use Rattle.ir_text.specs.Mentions.{Mention, Mentioning, ◌⊙◌, silent}
+use Rattle.ir_text.specs.Mentions.{Mentioning, ◌⊙◌, silent}
 use Rattle.ir_text.specs.Types.{IsStored, SpellsTypeOf}
-use Rattle.ir_grammar.specs.Operations.{SpellsNumber, the_type, the_comma}
+use Rattle.ir_grammar.specs.Operations.{the_type, the_comma}
 use Rattle.ir_grammar.specs.Items.{SpellsLiteral, SpellsInit, literal, zero, bytes, SpellsParts, last, more}
 use Rattle.ir_grammar.specs.Items as items
-use Rattle.ir_grammar.specs.Printing.{joined, type_text, literal_text, init_text, quoted}
+use Rattle.ir_grammar.specs.Printing.{joined, literal_text, init_text, quoted}
 use Rattle.ir_lex.proofs.Plain.{Stops}
 use Rattle.ir_print.specs.Parts.{part_line}
 use Rattle.ir_print.proofs.Lists.{list_text}
 use Rattle.ir_print.proofs.QuotedNames.{AreBytes, quoted_is_quoted}
-use Rattle.ir_read_back.specs.Normal.{normal_operand, normal_init, normal_parts, normal_held}
+use Rattle.ir_read_back.specs.Normal.{normal_operand, normal_init, normal_parts}
 use Rattle.ir_read_back.proofs.ByteNames.{byte_string_bytes}
 use Rattle.ir_read_back.proofs.Lines.{written_as}
 use Rattle.ir_read_back.proofs.Numbers.{number_rewrites}
@@ -128,10 +128,14 @@ more_parts : (part : InitPart) (parts : List InitPart) (ts : List Lexeme)
     → ((the_type IsStored part.kind ⊙ silent (SpellsInit (normal_init part.kind part.init)))
     ⊙ (the_comma ⊙ silent (SpellsParts parts))) [] ts
     → silent (SpellsParts (normal_part part ∷ parts)) [] ts
-more_parts part parts ts
-    (_, _, _, (front, behind, is, (_, _, _, (kind, value, front_is, first, second)), (_, _, _, (comma, rest, behind_is, sign_is, others)))) =
-    (refl, more (normal_part part) parts kind value rest (rw (is, front_is, behind_is, sign_is.1, append_assoc) refl)
-    first.1 second.1 others.1)
+more_parts part parts ts (_, _, _, (front, behind, is, own, others)) =
+    let first = own.3 in
+    let second = others.3 in (
+      refl,
+      more (normal_part part) parts first.0 first.1 second.1
+          (rw (is, first.2, second.2, second.3.1, append_assoc) refl)
+          first.3.1 first.4.1 second.4.1,
+    )
 
 -- where there are more parts, a comma stands behind the first
 joined_more : (part : InitPart) {parts : List InitPart} {ts : List Lexeme} → SpellsParts parts ts
@@ -167,8 +171,10 @@ mutual
   init_writes kind (items.list {ts = ts} parts inner is spelled) real =
       let within : AreReal (sign 91 ∷ (inner ++ sign 93 ∷ [])) = subst AreReal is real in
       let all = parts_write spelled (each-left IsReal inner (sign 93 ∷ []) within.1) in
-      subst (λ v. Writes Stops (silent (SpellsInit v)) [] (init_text kind (init.List parts))) (sym (normal_list kind parts))
-      (subst (λ t. Writes Stops (silent (SpellsInit (init.List (map normal_part parts)))) [] t) (sym (list_text kind parts))
+      subst (λ v. Writes Stops (silent (SpellsInit v)) [] (init_text kind (init.List parts)))
+      (sym (normal_list kind parts))
+      (subst (λ t. Writes Stops (silent (SpellsInit (init.List (map normal_part parts)))) [] t)
+      (sym (list_text kind parts))
       (list_writes (map normal_part parts) (joined part_line (codes ", ") parts) all))
 
   parts_write : {parts : List InitPart} {ts : List Lexeme} → SpellsParts parts ts → AreReal ts
@@ -192,5 +198,6 @@ mutual
       ([], [], refl, ([], [], refl, tt, ([], [], refl, ([], [], refl, tt, tt)))) tt))
 
 pub init_rewrites : (kind : IrType) (value : Init)
-    → Rewrites Stops (silent (SpellsInit value)) (silent (SpellsInit (normal_init kind value))) [] (init_text kind value)
+    → Rewrites Stops (silent (SpellsInit value)) (silent (SpellsInit (normal_init kind value))) []
+    (init_text kind value)
 init_rewrites kind value = record { writes = λ old ts spelled real. init_writes kind spelled.1 real }

@@ -1,10 +1,9 @@
 -- Items as they are printed, one by one and all together.
-use Rattle.std.proofs.Common.{◌≡◌, ℕ, List, [], ◌∷◌, ◌++◌, map, flat_map, refl, sym, ap, subst, ◌∙◌, inl, inr, codes}
+use Rattle.std.proofs.Common.{◌≡◌, ℕ, List, [], ◌∷◌, ◌++◌, map, flat_map, refl, sym, subst, ◌∙◌, inl, inr, codes}
 use Rattle.ir_model.specs.declared.item.Item.{Item}
 use Rattle.ir_model.specs.declared.item.Item.TheVariants as item
 use Rattle.ir_model.specs.declared.item.Global_.{Global_}
 use Rattle.ir_model.specs.declared.function.Function.{Function}
-use Rattle.ir_text.specs.declared.token.TokenKind.{TokenKind}
 use Rattle.ir_text.specs.declared.token.TokenKind.TheVariants.{Global, Metadata}
 use Rattle.ir_text.specs.Tokens.{Lexeme, AreLexemes}
 use Rattle.ir_text.specs.Listed.{word}
@@ -63,7 +62,12 @@ global_begins g ts (pieces, (own, rest, is, (t, own_is, named), others)) = recor
 
 function_begins : (f : Function) (ms : List Mention) (ts : List Lexeme) → SpellsFunction f ms ts → BeginsPlain ts
 function_begins f ms ts (_, _, _, _, _, _, (_, _, _, (own, rest, is, first, others))) =
-    record { first = word (codes "define"); others = rest; tokens_are = rw (is, first.1) refl; no_metadata = λ metadata. cc }
+    record {
+      first = word (codes "define");
+      others = rest;
+      tokens_are = rw (is, first.1) refl;
+      no_metadata = λ metadata. cc;
+    }
 
 draft_begins : (x : Item) (ms : List Mention) (ts : List Lexeme) → SpellsDraft x ms ts → BeginsPlain ts
 draft_begins (item.PassedOn text) ms ts spelled = line_begins ts spelled.1.0

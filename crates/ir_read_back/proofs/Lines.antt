@@ -1,7 +1,7 @@
 -- What stands on a line of its own: its end, runs of words, parts with commas, and lines that are passed on.
 use Rattle.std.proofs.Common.{◌≡◌, ℕ, List, [], ◌∷◌, ◌++◌, codes, refl, append_assoc}
 use Rattle.std.specs.List.{flat_map}
-use Rattle.ir_text.specs.Tokens.{Lexeme, AreLexemes}
+use Rattle.ir_text.specs.Tokens.{Lexeme}
 use Rattle.ir_text.specs.Listed.{InSequence, SeparatedByCommas, sign}
 use Rattle.ir_text.specs.Language.{Language, ◌·◌, nothing, comma}
 use Rattle.ir_text.specs.Mentions.{Mention, Mentioning, silent}

@@ -1,5 +1,5 @@
 -- The printed text of a module that a text of bytes spells spells the module with the numerals that are printed.
-use Rattle.std.proofs.Common.{ℕ, ◌^◌, ◌<◌, ◌≤◌, List, [], ◌∷◌, length, All, arith}
+use Rattle.std.proofs.Common.{ℕ, ◌^◌, ◌<◌, ◌≤◌, List, [], ◌∷◌, length, All}
 use Rattle.std.proofs.lemmas.List.Elements.{All-head, All-tail}
 use Rattle.ir_model.specs.declared.item.Module.{Module}
 use Rattle.ir_grammar.specs.Printing.{module_text}
