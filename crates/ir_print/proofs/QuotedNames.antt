@@ -12,7 +12,7 @@ use Rattle.ir_grammar.specs.Printing.{hex_digit, escaped, quoted, name_text}
 use Rattle.ir_print.proofs.Seen.{tested}
 
 -- Each number of a list is a byte.
-pub AreBytes : List ℕ → Type 0
+unfoldable pub AreBytes : List ℕ → Type 0
 AreBytes [] = Unit {0}
 AreBytes (b ∷ bs) = (b < 256) × AreBytes bs
 
