@@ -14,3 +14,4 @@ pub mod TallyLemmas
 pub mod PlaceLemmas
 pub mod ThinNames
 pub mod FirstPhis
+pub mod ThinInstrs

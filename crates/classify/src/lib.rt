@@ -12,6 +12,8 @@ mod once;
 mod phi;
 mod places;
 mod tally;
+mod thin;
 
 pub use definitions::Definitions;
 pub use phi::classify_phi;
+pub use thin::is_thin;

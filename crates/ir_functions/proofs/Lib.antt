@@ -29,7 +29,6 @@ pub mod DroppedCalls
 pub mod WholeFunctions
 pub mod LineAt
 pub mod BodyAt
-pub mod ToldAs
 pub mod ArgumentAt
 pub mod MinimumNames
 pub mod TailAt

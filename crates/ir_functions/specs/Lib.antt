@@ -5,4 +5,3 @@ pub mod Lines
 pub mod Functions
 pub mod ArgumentViews
 pub mod Views
-pub mod Sentences

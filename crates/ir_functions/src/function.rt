@@ -6,7 +6,7 @@ ghost use Rattle.ir_grammar.specs.Functions.{SpellsFunction};
 ghost use Rattle.ir_parts.specs.Reading.{left_from, ReadsAs};
 ghost use Rattle.ir_parts.specs.Places.{mentions_at};
 ghost use Rattle.ir_functions.specs.Functions.{block_at, body_at, function_at};
-ghost use Rattle.ir_functions.specs.Sentences.{WithMentions, TellsAs};
+ghost use Rattle.ir_body.specs.Sentences.{TellsAs};
 ghost use Rattle.ir_functions.specs.Views.{bare_blocks, blocks_sites};
 
 use crate::labels::block_name;
@@ -31,7 +31,7 @@ pub fn read_function(
 ) -> Result<(Function, usize), ItemFault>
     requires { from ≤ length tokens.now.tokens }
     ensures sentence { TellsAs (λ f. (bare_function f, mentions_at tokens.now (function_sites f)))
-        (WithMentions SpellsFunction) tokens.now from result }
+        SpellsFunction tokens.now from result }
     ensures value { ReadsAs (λ f. (bare_function f, mentions_at tokens.now (function_sites f))) tokens.now result
         (function_at (left_from tokens.now from)) }
     ensures forth { IfOk result (λ read. (from < read.1) × (read.1 ≤ length tokens.now.tokens)) }

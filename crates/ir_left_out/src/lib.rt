@@ -24,6 +24,7 @@ use crate::layouts::faulty_layout;
 use crate::listed::number_of;
 use crate::placed::placed;
 use ir_lex::Tokens;
+pub use listed::left_out_text;
 use std::alloc::{AllocError, Global};
 
 /// Under which number the token at a place, from 0, is left out by name, and the byte of the text at which what is left

@@ -34,7 +34,7 @@ pub use metadata::{
 pub use names::{before_last, behind_first, is_global, is_label, is_local, starts_local};
 pub use numbers::{are_digits, int_width_of, small_number};
 pub use passed_text::text_between;
-pub use passed_words::{left_out_place, place_among};
+pub use passed_words::{left_out_place, left_out_word, place_among};
 pub use pieces::{group as behind_group, parentheses, string as behind_string};
 pub use read_types::{
     read_int_type, read_returned_type, read_scalar_type, read_stored_type, read_type,

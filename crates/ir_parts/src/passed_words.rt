@@ -1,6 +1,6 @@
 //! Which words are passed on.
 
-ghost use Rattle.std.specs.Prelude.{◌≡◌, map, position};
+ghost use Rattle.std.specs.Prelude.{◌≡◌, map, position, slice_get, MatchOption, Some, None};
 ghost use Rattle.std.specs.Str.{bytes_eq};
 ghost use Rattle.ir_text.specs.PassedOn.{opening_words, left_out_words, is_among};
 ghost use Rattle.ir_parts.specs.WordsReading.{is_passed_text, word_says};
@@ -111,6 +111,22 @@ pub fn left_out_place(text: &[u8]) -> Option<usize>
     ensures { result ≡ position (λ each. bytes_eq each text.now) left_out_words }
 {
     place_among(&LEFT_OUT_WORDS, text)
+}
+
+/// The word at a place among those of LLVM IR that are left out, from 0; None behind the last.
+pub fn left_out_word(place: usize) -> Option<&'static [u8]>
+    ensures { MatchOption result (slice_get left_out_words place ≡ None)
+        (λ word. slice_get left_out_words place ≡ Some word.now) }
+{
+    text_at(&LEFT_OUT_WORDS, place)
+}
+
+/// The text at a place of these, from 0; None behind the last.
+fn text_at(texts: &[&'static [u8]], place: usize) -> Option<&'static [u8]>
+    ensures { MatchOption result (slice_get (map (λ each. each.now) texts.now) place ≡ None)
+        (λ text. slice_get (map (λ each. each.now) texts.now) place ≡ Some text.now) }
+{
+    texts.get(place).copied()
 }
 
 /// The first place of a text among these, from 0; None where it is none of them.

@@ -3,7 +3,7 @@ use Rattle.ir_text.specs.Mentions.{Mention}
 use Rattle.std.proofs.Common.{List}
 use Rattle.ir_text.specs.Sites.{function_sites, bare_function}
 use Rattle.ir_parts.specs.Places.{mentions_at}
-use Rattle.ir_functions.proofs.ToldAs.{tells_as}
+use Rattle.ir_body.proofs.Sentences.{tells_as}
 use Rattle.ir_functions.proofs.WholeFunctions.{functions_are_read}
 use Rattle.ir_functions.proofs.function.read_function.Goals as goal
 
@@ -14,5 +14,5 @@ returns-clause-sentence c =
       mentions_at c.args.tokens.now
           (function_sites f),
     ) in
-    tells_as view functions_are_read.reader c.args.tokens.now c.args.from c.requires c.function.result
+    tells_as functions_are_read view c.args.tokens.now c.args.from c.requires c.function.result
     c.function.ensures.value
