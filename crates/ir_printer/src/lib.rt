@@ -1,10 +1,33 @@
-//! Prints modules, and names of values and blocks, as textual LLVM IR.
+//! The printed text of a module. First the numbers of what has no name are found, once for a function; then each
+//! part appends its text to what is printed so far, from names, types and operands up to the items.
 #![tactic(auto)]
 
-mod function;
-mod instruction;
-mod module_text;
-mod operand;
+// The numbers of what has no name.
+mod numbers;
+mod walk;
 
-pub use module_text::print_module;
-pub use operand::{push_block_name, push_value};
+// Small parts.
+mod names;
+mod numeral;
+mod operand;
+mod shown;
+mod types;
+mod words;
+
+// Instructions, by kind.
+mod binary;
+mod call;
+mod control;
+mod given;
+mod instruction;
+mod memory;
+
+// Functions, and the other items.
+mod function;
+mod initialiser;
+mod items;
+mod module;
+
+pub use module::print_module;
+pub use names::push_text_name;
+pub use shown::{Names, push_block_name, push_global_name, push_value_name};

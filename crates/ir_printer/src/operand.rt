@@ -1,95 +1,101 @@
-//! Names and operands.
+//! Operands, with their types and without them.
 
-ghost use Rattle.std.specs.Prelude.{◌≡◌, [], ◌++◌, unwrap_or, OnOk};
-ghost use Rattle.std.specs.Fmt.{signed_decimal};
-ghost use Rattle.ir_text.specs.Printed.{printed_name, printed_operand, printed_two, signed_reading};
-ghost use Rattle.ir_text.specs.Thin.{value_name, label_name};
+ghost use Rattle.std.specs.Prelude.{◌≡◌, ◌∷◌, ◌++◌, codes, OnOk};
+ghost use Rattle.ir_grammar.specs.Printing.{type_text, operand_text, typed_text, pointer_text, target_text, two_text};
+ghost use Rattle.ir_printer.specs.Shown.{shown};
 
-use ir_model::{Operand, Text, ValueInfo};
-use itoa::Buffer;
-use scev_base::{BlockId, ValueId, Width, signed, wrap};
-use sqlite_items::at;
+use crate::numeral::push_numeral;
+use crate::shown::{Names, push_block_name, push_global_name, push_value_name};
+use crate::types::push_type;
+use ir_model::{IrType, Operand, TypedOperand};
+use scev_base::BlockId;
 use std::alloc::AllocError;
 
-/// The text name of a value, empty where it has none.
-fn name_of_value(values: &[ValueInfo], value: ValueId) -> &[u8]
-    ensures { result.now ≡ unwrap_or (value_name values.now value.0) [] }
-{
-    match at(values, value.0 as usize) {
-        Some(
-            ValueInfo {
-                name: Some(name),
-                ..
-            },
-        ) => name.as_slice(),
-        _ => &[],
-    }
-}
-
-/// The text name of a block, empty where it has none.
-pub fn name_of_block(labels: &[Option<Text>], block: BlockId) -> &[u8]
-    ensures { result.now ≡ unwrap_or (label_name labels.now block.0) [] }
-{
-    match at(labels, block.0 as usize) {
-        Some(Some(name)) => name.as_slice(),
-        _ => &[],
-    }
-}
-
-/// Appends `%name` of a value.
-pub fn push_value(out: &mut Vec<u8>, values: &[ValueInfo], value: ValueId) -> Result<(), AllocError>
-    ensures { OnOk result (out.new.items ≡ out.old.items ++ printed_name (value_name values.now) value.0) }
-{
-    out.push(b'%')?;
-    out.extend_from_slice(name_of_value(values, value))
-}
-
-/// Appends `%name` of a block.
-pub fn push_block_name(
-    out: &mut Vec<u8>,
-    labels: &[Option<Text>],
-    block: BlockId,
-) -> Result<(), AllocError>
-    ensures { OnOk result (out.new.items ≡ out.old.items ++ printed_name (label_name labels.now) block.0) }
-{
-    out.push(b'%')?;
-    out.extend_from_slice(name_of_block(labels, block))
-}
-
-/// Appends a numeral: the number from -2^31 to 2^31 - 1 that agrees with `n` modulo 2^32.
-fn push_numeral(out: &mut Vec<u8>, n: i128) -> Result<(), AllocError>
-    ensures { OnOk result (out.new.items ≡ out.old.items ++ signed_decimal (signed_reading 32 n)) }
-{
-    let word = Width { bits: 32 };
-    let mut buffer = Buffer::new();
-    out.extend_from_slice(buffer.format(signed(wrap(n, word), word)).as_bytes())
-}
-
-/// Appends an operand: a register by its name, a numeral by its signed reading.
+/// Appends an operand of a type, without the type.
 pub fn push_operand(
     out: &mut Vec<u8>,
-    values: &[ValueInfo],
+    names: &Names<'_>,
+    kind: &IrType,
     operand: Operand,
 ) -> Result<(), AllocError>
-    ensures { OnOk result (out.new.items ≡ out.old.items ++ printed_operand (value_name values.now) operand) }
+    ensures { OnOk result (out.new.items ≡ out.old.items ++ operand_text (shown names.now) kind.now operand) }
 {
     match operand {
-        Operand::Reg(value) => push_value(out, values, value),
-        Operand::Num(n) => push_numeral(out, n),
-        _ => Ok(()),
+        Operand::Reg(value) => push_value_name(out, names, value),
+        Operand::Num(n) => push_numeral(out, kind, n),
+        Operand::Null => out.extend_from_slice(b"null"),
+        Operand::Global(global) => push_global_name(out, names, global),
+        Operand::Undef => out.extend_from_slice(b"undef"),
+        Operand::Poison => out.extend_from_slice(b"poison"),
     }
 }
 
-/// Appends two operands with a comma between them.
+/// Appends a type and an operand of it.
+pub fn push_of_type(
+    out: &mut Vec<u8>,
+    names: &Names<'_>,
+    kind: &IrType,
+    operand: Operand,
+) -> Result<(), AllocError>
+    ensures { OnOk result (out.new.items
+        ≡ out.old.items ++ (type_text kind.now ++ 32 ∷ operand_text (shown names.now) kind.now operand)) }
+{
+    push_type(out, kind)?;
+    out.push(b' ')?;
+    push_operand(out, names, kind, operand)
+}
+
+/// Appends an operand with its type.
+pub fn push_typed(
+    out: &mut Vec<u8>,
+    names: &Names<'_>,
+    typed: &TypedOperand,
+) -> Result<(), AllocError>
+    ensures { OnOk result (out.new.items ≡ out.old.items ++ typed_text (shown names.now) typed.now) }
+{
+    push_of_type(out, names, &typed.kind, typed.value)
+}
+
+/// Appends `type v, v`.
 pub fn push_two(
     out: &mut Vec<u8>,
-    values: &[ValueInfo],
+    names: &Names<'_>,
+    kind: &IrType,
     left: Operand,
     right: Operand,
 ) -> Result<(), AllocError>
-    ensures { OnOk result (out.new.items ≡ out.old.items ++ printed_two (value_name values.now) left right) }
+    ensures { OnOk result (out.new.items ≡ out.old.items ++ two_text (shown names.now) kind.now left right) }
 {
-    push_operand(out, values, left)?;
+    push_of_type(out, names, kind, left)?;
     out.extend_from_slice(b", ")?;
-    push_operand(out, values, right)
+    push_operand(out, names, kind, right)
+}
+
+/// Appends `ptr v`.
+pub fn push_pointer(
+    out: &mut Vec<u8>,
+    names: &Names<'_>,
+    pointer: Operand,
+) -> Result<(), AllocError>
+    ensures { OnOk result (out.new.items ≡ out.old.items ++ pointer_text (shown names.now) pointer) }
+{
+    out.extend_from_slice(b"ptr ")?;
+    push_operand(out, names, &IrType::Ptr, pointer)
+}
+
+/// Appends `i1 v`.
+pub fn push_condition(out: &mut Vec<u8>, names: &Names<'_>, cond: Operand) -> Result<(), AllocError>
+    ensures { OnOk result (out.new.items
+        ≡ out.old.items ++ (codes "i1 " ++ operand_text (shown names.now) (IrType.Int 1) cond)) }
+{
+    out.extend_from_slice(b"i1 ")?;
+    push_operand(out, names, &IrType::Int(1), cond)
+}
+
+/// Appends `label %block`.
+pub fn push_target(out: &mut Vec<u8>, names: &Names<'_>, block: BlockId) -> Result<(), AllocError>
+    ensures { OnOk result (out.new.items ≡ out.old.items ++ target_text (shown names.now) block.0) }
+{
+    out.extend_from_slice(b"label ")?;
+    push_block_name(out, names, block)
 }

@@ -2,7 +2,7 @@
 use Rattle.std.proofs.Common.{◌≡◌, ℕ, suc, ◌+◌, ◌<◌, ◌≤◌, Bool, true, not, List, [], ◌∷◌, ◌++◌, length, Some, ◌⊎◌, sym, ap, subst, inl, inr, slice_get, arith}
 use Rattle.std.specs.List.{filter, prefix_len}
 use Rattle.ir_grammar.specs.Numbering.{first_occurrences}
-use Rattle.ir_print.proofs.Seen.{tested}
+use Rattle.ir_printer.proofs.Seen.{tested}
 
 -- The thing is in the list.
 abbrev pub Among : {A : Type 0} → List A → A → Type 0

@@ -5,8 +5,8 @@ use Rattle.std.proofs.lemmas.Bool.Decides.{nat_tests}
 use Rattle.ir_text.specs.Tokens.{Lexeme}
 use Rattle.ir_text.specs.Written.{Name, Text, Number, unescaped, IsQuoted, Says, SaysGlobal, IsLocal, IsLabel, IsGlobal, IsByteString}
 use Rattle.ir_text.specs.Mentions.{Mention, DefinesValue, UsesValue, DefinesBlock, UsesBlock, UsesGlobal}
-use Rattle.ir_print.proofs.Seen.{tested}
-use Rattle.ir_print.proofs.QuotedNames.{AreBytes}
+use Rattle.ir_printer.proofs.Seen.{tested}
+use Rattle.ir_printer.proofs.QuotedNames.{AreBytes}
 
 -- ---- lists of bytes
 

@@ -13,7 +13,7 @@ use Rattle.ir_text.specs.Written.{IsLocal, IsLabel, IsGlobal}
 use Rattle.ir_text.specs.Mentions.{Mention, Mentioning, ◌⊙◌, silent, mentions, uses_value, uses_block, uses_global, defines_value, defines_block, unwritten, DefinesValue, UsesValue, DefinesBlock, UsesBlock, UsesGlobal, InOrder}
 use Rattle.ir_grammar.specs.Operations.{SpellsOperand, the_word, the_comma, SpellsTyped, SpellsPointer, SpellsBlockName, SpellsTarget, SpellsTwo, SpellsEntry, Argument, SpellsArgument, WithCommas, Listing, SpellsCase, SpellsOp}
 use Rattle.ir_read_back.proofs.ByteNames.{MentionIsBytes, local_bytes, label_bytes, global_bytes}
-use Rattle.ir_print.proofs.QuotedNames.{AreBytes}
+use Rattle.ir_printer.proofs.QuotedNames.{AreBytes}
 use Rattle.ir_read_back.proofs.Real.{Each, AreReal, IsReal, each-left, each-right, each-append}
 
 -- ---- languages

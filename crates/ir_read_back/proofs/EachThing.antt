@@ -3,7 +3,7 @@ use Rattle.std.proofs.Common.{◌≡◌, ℕ, zero, suc, Bool, not, List, [], �
 use Rattle.std.specs.List.{filter}
 use Rattle.std.proofs.lemmas.Option.{same_Some, none-some}
 use Rattle.ir_grammar.specs.Numbering.{first_occurrences}
-use Rattle.ir_print.proofs.Seen.{tested}
+use Rattle.ir_printer.proofs.Seen.{tested}
 use Rattle.ir_read_back.proofs.Real.{Each}
 
 pub filter_each : {A : Type 0} (Q : A → Type 0) (test : A → Bool) (xs : List A) → Each Q xs

@@ -9,7 +9,7 @@ use Rattle.ir_text.specs.Sites as site
 use Rattle.ir_grammar.specs.Numbering.{Tables, tables_of, named, value_names, label_names, global_names, same_name, text_of_name, IsNumbered}
 use Rattle.ir_grammar.specs.Printing.{Value, Block_, named_value, named_block, number_of}
 use Rattle.ir_read_back.proofs.Printed.{name_or_number, value_name, label_name, global_name, shown_mention, function_mentions}
-use Rattle.ir_print.proofs.QuotedNames.{AreBytes}
+use Rattle.ir_printer.proofs.QuotedNames.{AreBytes}
 use Rattle.ir_read_back.proofs.ByteNames.{NameIsBytes, MentionIsBytes}
 use Rattle.ir_read_back.proofs.EachThing.{first_each, at_place, each_weaker, each_both, all_of_map}
 use Rattle.ir_read_back.proofs.NamesApart.{Occurs, number_below, is_its_text}

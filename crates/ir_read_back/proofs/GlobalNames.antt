@@ -4,7 +4,7 @@ use Rattle.ir_text.specs.Written.{IsGlobal}
 use Rattle.ir_text.specs.Language.{one}
 use Rattle.ir_text.specs.Mentions.{silent}
 use Rattle.ir_grammar.specs.Printing.{name_text}
-use Rattle.ir_print.proofs.QuotedNames.{name_says_global}
+use Rattle.ir_printer.proofs.QuotedNames.{name_says_global}
 use Rattle.ir_lex.proofs.Plain.{Stops}
 use Rattle.ir_read_back.proofs.Real.{AreReal}
 use Rattle.ir_read_back.proofs.ByteNames.{global_bytes}

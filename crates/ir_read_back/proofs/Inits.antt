@@ -23,9 +23,9 @@ use Rattle.ir_grammar.specs.Items.{SpellsLiteral, SpellsInit, literal, zero, byt
 use Rattle.ir_grammar.specs.Items as items
 use Rattle.ir_grammar.specs.Printing.{joined, literal_text, init_text, quoted}
 use Rattle.ir_lex.proofs.Plain.{Stops}
-use Rattle.ir_print.specs.Parts.{part_line}
-use Rattle.ir_print.proofs.Lists.{list_text}
-use Rattle.ir_print.proofs.QuotedNames.{AreBytes, quoted_is_quoted}
+use Rattle.ir_printer.specs.Parts.{part_line}
+use Rattle.ir_printer.proofs.Lists.{list_text}
+use Rattle.ir_printer.proofs.QuotedNames.{AreBytes, quoted_is_quoted}
 use Rattle.ir_read_back.specs.Normal.{normal_operand, normal_init, normal_parts}
 use Rattle.ir_read_back.proofs.ByteNames.{byte_string_bytes}
 use Rattle.ir_read_back.proofs.Lines.{written_as}

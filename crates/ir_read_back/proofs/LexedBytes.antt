@@ -6,7 +6,7 @@ use Rattle.ir_text.specs.declared.token.TokenKind.TheVariants.{Word, Label, Nume
 use Rattle.ir_text.specs.Names.{is_word, is_signed_number}
 use Rattle.ir_text.specs.Tokens.{Placed, HasForm, Lexed, ends_whole, ends_bad, goes_on}
 use Rattle.ir_grammar.specs.Spelled.{lexemes_of}
-use Rattle.ir_print.proofs.QuotedNames.{AreBytes}
+use Rattle.ir_printer.proofs.QuotedNames.{AreBytes}
 use Rattle.ir_read_back.proofs.ByteNames.{bytes_front, bytes_behind, bytes_from}
 use Rattle.ir_read_back.proofs.Real.{AreReal}
 

@@ -11,7 +11,7 @@ use Rattle.ir_grammar.specs.Numbering.{EachMatches, NumberedFunction, IsNumbered
 use Rattle.ir_grammar.specs.Printing.{shown_in}
 use Rattle.ir_grammar.specs.Spelled.{lexemes_of, Spells}
 use Rattle.ir_read_back.proofs.Printed.{names_of}
-use Rattle.ir_print.proofs.QuotedNames.{AreBytes}
+use Rattle.ir_printer.proofs.QuotedNames.{AreBytes}
 use Rattle.ir_read_back.proofs.Carried.{Carries}
 use Rattle.ir_read_back.proofs.CarriedFunctions.{function_carries}
 use Rattle.ir_read_back.proofs.Fitting.{mentions_within}

@@ -4,7 +4,7 @@ use Rattle.std.proofs.lemmas.List.Elements.{All-head, All-tail}
 use Rattle.ir_model.specs.declared.item.Module.{Module}
 use Rattle.ir_grammar.specs.Printing.{module_text}
 use Rattle.ir_grammar.specs.Spelled.{Spells}
-use Rattle.ir_print.proofs.QuotedNames.{AreBytes}
+use Rattle.ir_printer.proofs.QuotedNames.{AreBytes}
 use Rattle.ir_read_back.specs.Normal.{normal}
 use Rattle.ir_read_back.proofs.Items.{WritesItems, items_write}
 use Rattle.ir_read_back.proofs.Printable.{module_printable}

@@ -1,7 +1,7 @@
 -- Tokens that stand somewhere, in a text of bytes.
 use Rattle.std.proofs.Common.{ℕ, List, [], ◌∷◌, ◌++◌}
 use Rattle.ir_text.specs.Tokens.{Lexeme, IsTokenAt}
-use Rattle.ir_print.proofs.QuotedNames.{AreBytes}
+use Rattle.ir_printer.proofs.QuotedNames.{AreBytes}
 
 -- It is so of each thing of a list.
 abbrev pub Each : {A : Type 0} → (A → Type 0) → List A → Type 0

@@ -6,7 +6,7 @@ use Rattle.std.proofs.lemmas.Bool.Decides.{nat_tests}
 use Rattle.std.proofs.lemmas.Option.{slice_get-map, same_Some, none-some}
 use Rattle.ir_grammar.specs.Numbering.{first_occurrences}
 use Rattle.ir_grammar.proofs.OnePlace.{one_place}
-use Rattle.ir_print.proofs.Seen.{tested}
+use Rattle.ir_printer.proofs.Seen.{tested}
 use native.Mathlib.Omega.{arith}
 use Rattle.ir_read_back.proofs.EachThing.{at_place, filter_of_map, first_each, map_map, same_map}
 use Rattle.ir_read_back.proofs.Real.{Each}

@@ -1,25 +1,10 @@
-mod Terminals
-mod Loops
-mod Means
-mod Meant
-mod Took
-mod SoundLists
-mod SoundInstr
-mod SoundParts
-mod ReadOn
-mod CompleteLists
-mod CompleteInstr
-mod CompleteParts
-mod Parse
-mod KindLemmas
-mod NameLemmas
-mod Settling
-mod Spelled
-mod SpellsAgain
-mod TableLemmas
-mod Walking
-mod NoModule
-mod OneFront
-mod BothSpelled
-mod AlikeTypes
-mod OneModule
+pub mod ItemReaders
+pub mod ItemTurns
+pub mod ItemsRead
+pub mod AllItems
+pub mod ItemsLoop
+pub mod Refusals
+pub mod ReadRefusals
+pub mod OneModule
+pub mod OneRefusal
+pub mod OneName

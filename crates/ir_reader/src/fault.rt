@@ -5,10 +5,10 @@ use std::alloc::AllocError;
 /// Why a text wasn't read.
 #[derive(Clone, Copy, Debug, PartialEq, Eq)]
 pub enum ReadFault {
-    /// It spells no module; `at` is the byte of the refusal. So far `at` is always 0.
+    /// It spells no module; `at` is the byte of the refusal: that of the first token with which no module goes on, or
+    /// the one at which all tokens end.
     NotInGrammar { at: usize },
-    /// It uses a part of LLVM IR that is left out: its number in the table of such words, and its byte. So
-    /// far this is never answered.
+    /// The same at a part of LLVM IR that is left out by name: its number in the list of these, and its byte.
     Unsupported { word: u16, at: usize },
     /// No memory was found.
     OutOfMemory,

@@ -9,7 +9,3 @@ pub mod Mentions
 pub mod Types
 pub mod PassedOn
 pub mod Sites
-pub mod Thin
-pub mod Alike
-pub mod Same
-pub mod Printed

@@ -5,8 +5,6 @@
 // What rows build.
 #[cfg(test)]
 mod build;
-#[cfg(test)]
-mod thin;
 
 // The rows.
 #[cfg(test)]

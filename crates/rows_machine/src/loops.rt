@@ -2,7 +2,7 @@
 
 use crate::build::Line::{self, Branch, Jump, Ret};
 use crate::build::function;
-use crate::thin::is_thin;
+use classify::is_thin;
 use ir_model::Operand;
 use loop_regions::loops;
 use scev_base::{BlockId, LoopId};
@@ -106,7 +106,7 @@ const LOOPS: [(&[(u64, &[Line])], &[BlockId], &[Option<LoopId>]); 8] = [
 fn loops_of_one_block(rt: HostRuntime) -> Result<(), AllocError> {
     for (rows, headers, innermost) in LOOPS {
         let f = function(rt.alloc(), rows)?;
-        assert!(rt; is_thin(&f));
+        assert!(rt; is_thin(&f) && f.params.is_empty());
         let table = loops(rt.alloc(), &f)?;
         assert_eq!(rt; table.headers(), headers);
         for (number, held) in innermost.iter().enumerate() {

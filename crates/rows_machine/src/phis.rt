@@ -2,8 +2,7 @@
 
 use crate::build::Line::{self, Add, Branch, Jump, Phi, Ret};
 use crate::build::function;
-use crate::thin::is_thin;
-use classify::{Definitions, classify_phi};
+use classify::{Definitions, classify_phi, is_thin};
 use ir_model::Operand::{self, Num};
 use loop_regions::loops;
 use scev_base::ValueId;
@@ -66,7 +65,7 @@ fn starts_and_steps(rt: HostRuntime) -> Result<(), Fail> {
             (3, &[Ret(ONE)]),
         ];
         let f = function(rt.alloc(), &rows)?;
-        assert!(rt; is_thin(&f));
+        assert!(rt; is_thin(&f) && f.params.is_empty());
         let loops = loops(rt.alloc(), &f)?;
         let definitions = Definitions::new(rt.alloc(), &f)?;
         assert_eq!(rt; classify_phi(&f, &loops, &definitions, ValueId(0))?, found);

@@ -2,7 +2,7 @@
 
 use crate::build::Line::{self, Add, Branch, Icmp, Jump, Phi, Ret};
 use crate::build::function;
-use crate::thin::is_thin;
+use classify::is_thin;
 use ir_meaning::Phase::{Returned, Running, Undefined};
 use ir_meaning::Value::{Number, Poison};
 use ir_meaning::{Choice, Machine, Phase, Value};
@@ -70,7 +70,7 @@ fn runs_of_loops(rt: HostRuntime) -> Result<(), Fail> {
     for (body, most, made, phase, [left, right]) in RUNS {
         let rows: [(u64, &[Line]); 3] = [(0, &[Jump(1)]), (1, body), (2, &[Ret(RIGHT)])];
         let f = function(rt.alloc(), &rows)?;
-        assert!(rt; is_thin(&f));
+        assert!(rt; is_thin(&f) && f.params.is_empty());
         let mut machine = Machine::start(&f, Vec::new(rt.alloc()), Blocks::new(rt.alloc()))?;
         assert_eq!(rt; machine.run(&f, most)?, made);
         assert_eq!(rt; *machine.phase(), phase);

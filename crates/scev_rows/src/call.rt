@@ -57,6 +57,28 @@ pub fn print(alloc: Global, input: &[u8]) -> Result<Outcome, AllocError> {
     one_word(alloc, "print", input)
 }
 
+/// Whether `print` over the input writes this text, and nothing else.
+pub fn printed(alloc: Global, input: &str, text: &str) -> Result<bool, AllocError> {
+    let outcome = print(alloc, input.as_bytes())?;
+    Ok(
+        outcome.status == Status::Done
+            && outcome.out.as_slice() == text.as_bytes()
+            && outcome.err.is_empty(),
+    )
+}
+
+/// Whether `print` over the input refuses it with this line, and writes nothing else.
+pub fn refused(alloc: Global, input: &str, line: &str) -> Result<bool, AllocError> {
+    let outcome = print(alloc, input.as_bytes())?;
+    let mut wanted = Vec::from_slice(alloc, line.as_bytes())?;
+    wanted.push(b'\n')?;
+    Ok(
+        outcome.status.code() == 3
+            && outcome.out.is_empty()
+            && outcome.err.as_slice() == wanted.as_slice(),
+    )
+}
+
 /// `report` over these bytes, with objects that never fail.
 pub fn report(alloc: Global, input: &[u8]) -> Result<Outcome, AllocError> {
     one_word(alloc, "report", input)

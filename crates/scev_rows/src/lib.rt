@@ -2,13 +2,21 @@
 #![tactic(auto)]
 
 #[cfg(test)]
+mod bodies;
+#[cfg(test)]
 mod call;
+#[cfg(test)]
+mod clang;
 #[cfg(test)]
 mod examples;
 #[cfg(test)]
 mod faults;
 #[cfg(test)]
+mod items;
+#[cfg(test)]
 mod print;
+#[cfg(test)]
+mod refused;
 #[cfg(test)]
 mod report;
 #[cfg(test)]

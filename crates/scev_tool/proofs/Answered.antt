@@ -1,8 +1,10 @@
 -- Which status comes, by what is seen of a call.
-use Rattle.std.proofs.Common.{◌≡◌, ℕ, ◌<◌, ◌≤◌, List, [], length, Option, Some, None, ◌⊎◌, inl, inr, refl, arith}
+use Rattle.std.proofs.Common.{◌≡◌, ℕ, ◌<◌, ◌≤◌, List, [], length, Option, Some, None, ◌⊎◌, inl, inr, refl, sym, ap, ◌∙◌, arith}
 use Rattle.std.proofs.Common.{IfSome}
 use Rattle.ir_model.specs.declared.item.Module.{Module}
-use Rattle.ir_text.specs.Thin.{Spells, SpellsNone}
+use Rattle.ir_grammar.specs.Spelled.{Spells, SpellsNone, IsNotInGrammar, IsUnsupported}
+use Rattle.ir_reader.proofs.OneRefusal.{one_place}
+use Rattle.ir_reader.proofs.OneName.{one_number_and_place, not_both}
 use Rattle.scev_outside.specs.Faults.{Rose}
 use Rattle.scev_tool.specs.declared.status.Status.{Status}
 use Rattle.scev_tool.specs.declared.status.Status.TheVariants as status
@@ -36,6 +38,13 @@ module _ (seen : Seen) (bytes : List ℕ) (call : Call seen bytes) where
   held : (Holds : List ℕ → Type 0) → OfInput seen Holds → (length bytes ≤ input_limit) × Holds bytes
   held Holds input = let now = rw call.left at input in (now.0, now.2)
 
+  -- what is refused, and at which place
+  refused : (at : ℕ) → IsAnswer seen (status.NotInGrammar at) → IsNotInGrammar bytes at
+  refused at h = (held (λ bytes. IsNotInGrammar bytes at) h.2).1
+
+  left_out : (word at : ℕ) → IsAnswer seen (status.Unsupported word at) → IsUnsupported bytes word at
+  left_out word at h = (held (λ bytes. IsUnsupported bytes word at) h.2).1
+
   -- A module within the limit is answered, unless memory runs out or the output's count of faults rises.
   pub complete : (s : Status) (m : Module) → IsAnswer seen s → Spells bytes m → length bytes ≤ input_limit
       → (Rose seen.writes_old seen.writes_new → ⊥)
@@ -45,38 +54,68 @@ module _ (seen : Seen) (bytes : List ℕ) (call : Call seen bytes) where
   complete status.ReadFault m h spelled short writes = absurd (call.no_read_fault h.2)
   complete status.TooLong m h spelled short writes =
       let long : input_limit < length bytes = rw call.left at h.2 in absurd (omega arith)
-  complete (status.NotInGrammar at) m h spelled short writes = absurd ((held SpellsNone h.2.1).1 m spelled)
-  complete (status.Unsupported word at) m h spelled short writes = absurd h
+  complete (status.NotInGrammar at) m h spelled short writes = absurd ((refused at h).refusal.none m spelled)
+  complete (status.Unsupported word at) m h spelled short writes =
+      absurd ((left_out word at h).refusal.none m spelled)
   complete (status.Ill rule function place) m h spelled short writes = absurd h
   complete status.NoFunction m h spelled short writes = absurd h
   complete status.BadArgs m h spelled short writes = absurd h
   complete status.WriteFault m h spelled short writes = absurd (writes h.2.0)
   complete status.OutOfMemory m h spelled short writes = inr refl
 
-  -- What spells no module is refused as such.
-  pub refuses : (s : Status) → IsAnswer seen s → SpellsNone bytes → length bytes ≤ input_limit
-      → (s ≡ status.NotInGrammar 0) ⊎ (s ≡ status.OutOfMemory)
-  refuses status.Done h none short = let text = (held _ h.2).1 in absurd (spelled_by h.0 bytes text.0 text.1 none)
-  refuses status.Usage h none short = absurd (h call.which call.asked)
-  refuses status.ReadFault h none short = absurd (call.no_read_fault h.2)
-  refuses status.TooLong h none short =
+  -- What spells no module is refused at its place,
+  pub refuses : (s : Status) (place : ℕ) → IsAnswer seen s → IsNotInGrammar bytes place → length bytes ≤ input_limit
+      → (s ≡ status.NotInGrammar place) ⊎ (s ≡ status.OutOfMemory)
+  refuses status.Done place h none short =
+      let text = (held _ h.2).1 in absurd (spelled_by h.0 bytes text.0 text.1 none.refusal.none)
+  refuses status.Usage place h none short = absurd (h call.which call.asked)
+  refuses status.ReadFault place h none short = absurd (call.no_read_fault h.2)
+  refuses status.TooLong place h none short =
       let long : input_limit < length bytes = rw call.left at h.2 in absurd (omega arith)
-  refuses (status.NotInGrammar at) h none short = rw h.2.0 (inl refl)
-  refuses (status.Unsupported word at) h none short = absurd h
-  refuses (status.Ill rule function place) h none short = absurd h
-  refuses status.NoFunction h none short = absurd h
-  refuses status.BadArgs h none short = absurd h
-  refuses status.WriteFault h none short = let text = (held _ h.2.1).1 in absurd (spelled_by h.0 bytes text.0 text.1 none)
-  refuses status.OutOfMemory h none short = inr refl
+  refuses (status.NotInGrammar at) place h none short =
+      inl (ap status.NotInGrammar (one_place bytes at place (refused at h) none))
+  refuses (status.Unsupported word at) place h none short =
+      absurd (not_both bytes place word at none (left_out word at h))
+  refuses (status.Ill rule function block) place h none short = absurd h
+  refuses status.NoFunction place h none short = absurd h
+  refuses status.BadArgs place h none short = absurd h
+  refuses status.WriteFault place h none short =
+      let text = (held _ h.2.1).1 in absurd (spelled_by h.0 bytes text.0 text.1 none.refusal.none)
+  refuses status.OutOfMemory place h none short = inr refl
+
+  -- or named, where it is left out by name.
+  pub names : (s : Status) (number place : ℕ) → IsAnswer seen s → IsUnsupported bytes number place
+      → length bytes ≤ input_limit
+      → (s ≡ status.Unsupported number place) ⊎ (s ≡ status.OutOfMemory)
+  names status.Done number place h none short =
+      let text = (held _ h.2).1 in absurd (spelled_by h.0 bytes text.0 text.1 none.refusal.none)
+  names status.Usage number place h none short = absurd (h call.which call.asked)
+  names status.ReadFault number place h none short = absurd (call.no_read_fault h.2)
+  names status.TooLong number place h none short =
+      let long : input_limit < length bytes = rw call.left at h.2 in absurd (omega arith)
+  names (status.NotInGrammar at) number place h none short =
+      absurd (not_both bytes at number place (refused at h) none)
+  names (status.Unsupported word at) number place h none short =
+      let same = one_number_and_place bytes word at number place (left_out word at h) none in
+      inl (ap (λ (n : ℕ). status.Unsupported n at) same.0 ∙ ap (status.Unsupported number) same.1)
+  names (status.Ill rule function block) number place h none short = absurd h
+  names status.NoFunction number place h none short = absurd h
+  names status.BadArgs number place h none short = absurd h
+  names status.WriteFault number place h none short =
+      let text = (held _ h.2.1).1 in absurd (spelled_by h.0 bytes text.0 text.1 none.refusal.none)
+  names status.OutOfMemory number place h none short = inr refl
 
   -- What is longer than the limit is refused as such.
-  pub limits : (s : Status) → IsAnswer seen s → input_limit < length bytes → (s ≡ status.TooLong) ⊎ (s ≡ status.OutOfMemory)
+  pub limits : (s : Status) → IsAnswer seen s → input_limit < length bytes
+      → (s ≡ status.TooLong) ⊎ (s ≡ status.OutOfMemory)
   limits status.Done h long = let input = held _ h.2 in absurd (omega arith)
   limits status.Usage h long = absurd (h call.which call.asked)
   limits status.ReadFault h long = absurd (call.no_read_fault h.2)
   limits status.TooLong h long = inl refl
-  limits (status.NotInGrammar at) h long = let input = held SpellsNone h.2.1 in absurd (omega arith)
-  limits (status.Unsupported word at) h long = absurd h
+  limits (status.NotInGrammar at) h long =
+      let input = held (λ bytes. IsNotInGrammar bytes at) h.2 in absurd (omega arith)
+  limits (status.Unsupported word at) h long =
+      let input = held (λ bytes. IsUnsupported bytes word at) h.2 in absurd (omega arith)
   limits (status.Ill rule function place) h long = absurd h
   limits status.NoFunction h long = absurd h
   limits status.BadArgs h long = absurd h

@@ -1,12 +1,20 @@
 -- The lines of a function.
-use Rattle.std.proofs.Common.{◌≡◌, ℕ, List, ◌++◌, Result, Ok, Err, OnOk, append_assoc, refl, ◌∙◌}
-use Rattle.scev_base.specs.declared.ids.BlockId.{BlockId}
+use Rattle.std.proofs.Common.{◌≡◌, ℕ, List, ◌++◌, Result, Ok, Err, OnOk, append_assoc, refl, subst, ◌∙◌}
 use Rattle.ir_model.specs.declared.function.Function.{Function}
-use Rattle.loop_regions.specs.OneBlock.{AreLoops}
-use Rattle.scev_tool.specs.Report.{InPieces, AreLoopLines, function_line, AreFunctionLines}
+use Rattle.ir_model.specs.declared.item.Item.TheVariants.{Define}
+use Rattle.ir_grammar.specs.Printing.{Shown, shown_in}
+use Rattle.scev_tool.specs.Report.{AreLoopsLines, AreItemLines, function_line}
 
 -- They are the line of its name, and those of its loops.
-pub function_lines : {E : Type 0} (r : Result (Unit {0}) E) (f : Function) (headers : List BlockId) (old middle new : List ℕ) → AreLoops f headers → middle ≡ old ++ function_line f → OnOk r ((lines : List ℕ) × InPieces (AreLoopLines f) headers lines × (new ≡ middle ++ lines)) → OnOk r ((piece : List ℕ) × AreFunctionLines f piece × (new ≡ old ++ piece))
-function_lines (Ok x) f headers old middle new loops line h =
-    (function_line f ++ h.0, (headers, loops, h.0, refl, h.1), h.2 ∙ rw line (append_assoc old (function_line f) h.0))
-function_lines (Err e) f headers old middle new loops line h = tt
+pub function_lines : {E : Type 0} (r : Result (Unit {0}) E) (globals : List (List ℕ)) (f : Function) (shown : Shown)
+    (old middle new : List ℕ)
+    → shown ≡ shown_in globals f
+    → middle ≡ old ++ function_line f
+    → OnOk r ((lines : List ℕ) × AreLoopsLines shown f lines × (new ≡ middle ++ lines))
+    → OnOk r ((piece : List ℕ) × AreItemLines globals (Define f) piece × (new ≡ old ++ piece))
+function_lines (Ok x) globals f shown old middle new is line h = (
+  function_line f ++ h.0,
+  (h.0, refl, subst (λ (shown : Shown). AreLoopsLines shown f h.0) is h.1),
+  h.2 ∙ rw line (append_assoc old (function_line f) h.0),
+)
+function_lines (Err e) globals f shown old middle new is line h = tt

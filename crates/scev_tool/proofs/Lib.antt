@@ -1,6 +1,5 @@
 pub mod Adding
 pub mod Answered
-pub mod FunctionLines
 pub mod Headers
 pub mod Items
 pub mod OneReport
@@ -8,5 +7,5 @@ pub mod Phis
 pub mod Pieces
 pub mod Recurrences
 pub mod Texts
-pub mod ThinForms
 pub mod Words
+pub mod FunctionLines

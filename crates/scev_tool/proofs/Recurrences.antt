@@ -1,5 +1,5 @@
 -- What is known of the parts of a recurrence.
-use Rattle.std.proofs.Common.{◌≡◌, ◌≢◌, ℕ, ◌<◌, ◌^◌, List, [], ◌∷◌, Option, Some, ℤ, pos, negsuc, inl, inr, refl, arith}
+use Rattle.std.proofs.Common.{IfSome, None, ◌≡◌, ◌≢◌, ℕ, ◌<◌, ◌^◌, List, [], ◌∷◌, Option, Some, ℤ, pos, negsuc, inl, inr, refl, arith}
 use Rattle.std.specs.Prelude.{All}
 use Rattle.std.proofs.lemmas.List.Elements.{All-head}
 use Rattle.scev_base.specs.Residue.{residue}
@@ -38,7 +38,15 @@ step-lt p n (Binary binary.Add nuw nsw exact disjoint kind left right) h =
 step-lt p n _ h = absurd h
 
 -- Both parts of an answer are residues.
-pub answer_parts-lt : (f : Function) (b p : ℕ) (answer : Option (ℕ × ℕ)) (first step : ℕ) → IsAnswer f b p answer → answer ≡ Some (first, step) → (first < 2 ^ 32) × (step < 2 ^ 32)
+pub answer_parts-lt : (f : Function) (b p : ℕ) (answer : Option (ℕ × ℕ)) (first step : ℕ) → IsAnswer f b p answer
+    → answer ≡ Some (first, step)
+    → (first < 2 ^ 32) × (step < 2 ^ 32)
 answer_parts-lt f b p answer first step h is =
     let found = rw is at h in
     (start-lt first _ found.outside found.starts, step-lt p step found.increment found.increments)
+
+-- So are those of an answer.
+pub answer_small : (f : Function) (b p : ℕ) (answer : Option (ℕ × ℕ)) → IsAnswer f b p answer
+    → IfSome answer (λ parts. (parts.0 < 2 ^ 32) × (parts.1 < 2 ^ 32))
+answer_small f b p None h = tt
+answer_small f b p (Some parts) h = answer_parts-lt f b p (Some parts) parts.0 parts.1 h refl

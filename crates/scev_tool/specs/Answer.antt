@@ -1,15 +1,15 @@
 -- What a call answers, status by status.
 use Rattle.std.specs.Prelude.{◌≡◌, ℕ, ◌<◌, ◌≤◌, List, [], length, Option, Some, IfSome}
-use Rattle.ir_text.specs.Thin.{SpellsNone}
+use Rattle.ir_grammar.specs.Spelled.{IsNotInGrammar, IsUnsupported}
 use Rattle.scev_outside.specs.Bytes.{Appended, AppendedFront}
 use Rattle.scev_outside.specs.Faults.{Rose}
 use Rattle.scev_tool.specs.declared.mode.Mode.{Mode}
 use Rattle.scev_tool.specs.declared.status.Status.{Status}
-use Rattle.scev_tool.specs.declared.status.Status.TheVariants.{Done, Usage, ReadFault, TooLong, NotInGrammar, WriteFault, OutOfMemory}
+use Rattle.scev_tool.specs.declared.status.Status.TheVariants.{Done, Usage, ReadFault, TooLong, NotInGrammar, Unsupported, WriteFault, OutOfMemory}
 use Rattle.scev_tool.specs.Mode.{AskFor, IsTextOf}
 
--- What is seen of a call: its words, what the source had left and what the output had taken, before and after, and the counts
--- of faults of both. None is the content of an object that doesn't tell it.
+-- What is seen of a call: its words, what the source had left and what the output had taken, before and after, and the
+-- counts of faults of both. None is the content of an object that doesn't tell it.
 pub record Seen : Type 0 where
   pub words : List (List ℕ)
   pub left_old : Option (List ℕ)
@@ -27,14 +27,16 @@ input_limit = 8388608
 
 -- All of the input was read. It is within the limit, and this holds of its bytes.
 abbrev pub OfInput : Seen → (List ℕ → Type 0) → Type 0
-OfInput seen Holds = IfSome seen.left_old (λ bytes. (length bytes ≤ input_limit) × (seen.left_new ≡ Some []) × Holds bytes)
+OfInput seen Holds = IfSome seen.left_old (λ bytes.
+    (length bytes ≤ input_limit) × (seen.left_new ≡ Some []) × Holds bytes)
 
 -- The text that a mode writes for the bytes was appended; and a prefix of it.
 abbrev pub Writes : Seen → Mode → List ℕ → Type 0
 Writes seen mode bytes = (text : List ℕ) × IsTextOf mode bytes text × Appended seen.taken_old text seen.taken_new
 
 abbrev pub WritesPrefix : Seen → Mode → List ℕ → Type 0
-WritesPrefix seen mode bytes = (text : List ℕ) × IsTextOf mode bytes text × AppendedFront seen.taken_old text seen.taken_new
+WritesPrefix seen mode bytes =
+    (text : List ℕ) × IsTextOf mode bytes text × AppendedFront seen.taken_old text seen.taken_new
 
 -- The words ask for a mode, of which this holds.
 abbrev pub Asked : Seen → (Mode → Type 0) → Type 0
@@ -45,8 +47,10 @@ abbrev pub IsAnswer : Seen → Status → Type 0
 IsAnswer seen Usage = (mode : Mode) → AskFor mode seen.words → ⊥
 IsAnswer seen ReadFault = Asked seen (λ mode. Rose seen.reads_old seen.reads_new)
 IsAnswer seen TooLong = Asked seen (λ mode. IfSome seen.left_old (λ bytes. input_limit < length bytes))
-IsAnswer seen (NotInGrammar at) = Asked seen (λ mode. (at ≡ 0) × OfInput seen SpellsNone)
+IsAnswer seen (NotInGrammar at) = Asked seen (λ mode. OfInput seen (λ bytes. IsNotInGrammar bytes at))
+IsAnswer seen (Unsupported word at) = Asked seen (λ mode. OfInput seen (λ bytes. IsUnsupported bytes word at))
 IsAnswer seen Done = Asked seen (λ mode. OfInput seen (Writes seen mode))
-IsAnswer seen WriteFault = Asked seen (λ mode. Rose seen.writes_old seen.writes_new × OfInput seen (WritesPrefix seen mode))
+IsAnswer seen WriteFault = Asked seen (λ mode.
+    Rose seen.writes_old seen.writes_new × OfInput seen (WritesPrefix seen mode))
 IsAnswer seen OutOfMemory = Asked seen (λ mode. Unit {0})
 IsAnswer seen _ = ⊥

@@ -1,9 +1,10 @@
 //! What a mode answers.
 
-ghost use Rattle.std.specs.Prelude.{◌≡◌, ◌≤◌, List, ℕ, IfOk};
+ghost use Rattle.std.specs.Prelude.{◌≡◌, ◌≤◌, ◌<◌, ◌^◌, List, ℕ, length, IfOk, All};
 ghost use Rattle.scev_outside.specs.Bytes.{Gave};
-ghost use Rattle.ir_text.specs.Thin.{IsThin, Spells};
-ghost use Rattle.scev_tool.specs.Answer.{IsAnswer};
+ghost use Rattle.ir_grammar.specs.Spelled.{Spells};
+ghost use Rattle.ir_printer.specs.Counting.{HaveIds};
+ghost use Rattle.scev_tool.specs.Answer.{IsAnswer, input_limit};
 ghost use Rattle.scev_tool.specs.Mode.{AskFor, IsTextOf};
 ghost use Rattle.scev_tool.specs.Status.{LeavesOutput};
 
@@ -58,6 +59,7 @@ pub fn answer<S: Source, K: Sink>(
         Err(ReadFault::Unsupported { word, at }) => return Status::Unsupported { word, at },
         Err(ReadFault::OutOfMemory) => return Status::OutOfMemory,
     };
+    are_bytes(&bytes);
     let Ok(text) = text_of(alloc, mode, &module) else {
         return Status::OutOfMemory;
     };
@@ -67,13 +69,19 @@ pub fn answer<S: Source, K: Sink>(
     }
 }
 
+/// Each byte is below 2^8, as its type says.
+fn are_bytes(bytes: &[u8])
+    ensures { All (λ b. b < 2 ^ 8) bytes.now }
+{}
+
 /// The mode's text for a module.
-fn text_of(alloc: Global, mode: Mode, module: &Module) -> Result<Vec<u8>, AllocError>
-    requires { IsThin module.now }
-    ensures { IfOk result (λ text. (bytes : List ℕ) → Spells bytes module.now → IsTextOf mode bytes text.items) }
+fn text_of(alloc: Global, mode: Mode, m: &Module) -> Result<Vec<u8>, AllocError>
+    requires { HaveIds m.now }
+    ensures { IfOk result (λ text. (bytes : List ℕ) → All (λ b. b < 2 ^ 8) bytes → length bytes ≤ input_limit →
+        Spells bytes m.now → IsTextOf mode bytes text.items) }
 {
     match mode {
-        Mode::Print => print_module(alloc, module),
-        Mode::Report => report_module(alloc, module),
+        Mode::Print => print_module(alloc, m),
+        Mode::Report => report_module(alloc, m),
     }
 }

@@ -11,7 +11,6 @@ mod running;
 mod status;
 mod word;
 
-pub use ir_printer::print_module;
 pub use mode::Mode;
 pub use running::run;
 pub use status::Status;

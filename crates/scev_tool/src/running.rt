@@ -2,7 +2,7 @@
 
 ghost use Rattle.std.specs.Prelude.{◌≡◌, ◌≤◌, ◌<◌, ◌⊎◌, ℕ, List, length, Some};
 ghost use Rattle.ir_model.specs.declared.item.Module.{Module};
-ghost use Rattle.ir_text.specs.Thin.{Spells, SpellsNone};
+ghost use Rattle.ir_grammar.specs.Spelled.{Spells, IsNotInGrammar, IsUnsupported};
 ghost use Rattle.scev_outside.specs.Bytes.{Gave};
 ghost use Rattle.scev_outside.specs.Faults.{Rose};
 ghost use Rattle.scev_tool.specs.Message.{message, AddsUnlessFaulty};
@@ -53,17 +53,21 @@ pub fn run<S: Source, K: Sink, E: Sink>(
     ensures stands { (read : List ℕ) × Gave (S.left source.old) read (S.left source.new) }
 
     // A module within the limit is answered, unless memory runs out or an object's count of faults rises.
-    ensures complete { (mode : Mode) (bytes : List ℕ) (m : Module) → AskFor mode words.now → S.left source.old ≡ Some bytes →
-        length bytes ≤ input_limit → Spells bytes m →
+    ensures complete { (mode : Mode) (bytes : List ℕ) (m : Module) → AskFor mode words.now →
+        S.left source.old ≡ Some bytes → length bytes ≤ input_limit → Spells bytes m →
         (Rose (S.faults source.old) (S.faults source.new) → ⊥) →
         (Rose (K.faults out.old) (K.faults out.new) → ⊥) →
         (result ≡ Status.Done) ⊎ (result ≡ Status.OutOfMemory) }
 
-    // What spells none within the limit is refused as such, on the same conditions; and what is longer.
-    ensures refuses { (mode : Mode) (bytes : List ℕ) → AskFor mode words.now → S.left source.old ≡ Some bytes →
-        length bytes ≤ input_limit → SpellsNone bytes →
+    // What spells none within the limit is refused at its place, on the same conditions; and what is longer.
+    ensures refuses { (mode : Mode) (bytes : List ℕ) (at : ℕ) → AskFor mode words.now →
+        S.left source.old ≡ Some bytes → length bytes ≤ input_limit → IsNotInGrammar bytes at →
         (Rose (S.faults source.old) (S.faults source.new) → ⊥) →
-        (result ≡ Status.NotInGrammar 0) ⊎ (result ≡ Status.OutOfMemory) }
+        (result ≡ Status.NotInGrammar at) ⊎ (result ≡ Status.OutOfMemory) }
+    ensures names { (mode : Mode) (bytes : List ℕ) (word at : ℕ) → AskFor mode words.now →
+        S.left source.old ≡ Some bytes → length bytes ≤ input_limit → IsUnsupported bytes word at →
+        (Rose (S.faults source.old) (S.faults source.new) → ⊥) →
+        (result ≡ Status.Unsupported word at) ⊎ (result ≡ Status.OutOfMemory) }
     ensures limits { (mode : Mode) (bytes : List ℕ) → AskFor mode words.now → S.left source.old ≡ Some bytes →
         input_limit < length bytes → (Rose (S.faults source.old) (S.faults source.new) → ⊥) →
         (result ≡ Status.TooLong) ⊎ (result ≡ Status.OutOfMemory) }

@@ -4,4 +4,5 @@ use Rattle.ir_printer.proofs.function.push_params.Goals as goal
 
 pub returns : goal.returns
 returns c =
-    joined_all _ (codes ", ") _ _ _ _ _ _ _ c.in-Some.ensures.cases.0 c.in_ok-push_param.ensures c.loop-param.invariant c.loop-param-test.false
+    joined_all _ (codes ", ") _ _ _ _ _ _ _ c.in-Some.ensures.cases.0 c.in_ok-push_param.ensures c.loop-param.invariant
+    c.loop-param-test.false

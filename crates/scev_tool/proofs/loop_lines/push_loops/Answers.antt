@@ -1,6 +1,7 @@
 use Rattle.std.proofs.Common.{length, arith}
 use Rattle.std.proofs.lemmas.List.{take_all}
 use Rattle.std.proofs.lemmas.Option.{slice_get_within}
+use Rattle.ir_printer.specs.Shown.{shown}
 use Rattle.scev_tool.specs.Report.{AreLoopLines}
 use Rattle.scev_tool.proofs.Headers.{header_block, later_after, later_past, none_left}
 use Rattle.scev_tool.proofs.Pieces.{appends-next}
@@ -24,7 +25,7 @@ loop-block-preserved c =
           let at = c.is_at.ensures.0 w.if-is_at.true in
           rw (w.out-is, w.done-is) (record {
             done = omega (arith, slice_get_within headers done c.block-item.result.id at);
-            lines = appends-next (AreLoopLines c.args.f.now) headers done c.block-item.result.id at _ c.loop-block.out.items _ w.in_ok-push_loop.ensures.0 c.loop-block.invariant.lines w.in_ok-push_loop.ensures.1 w.in_ok-push_loop.ensures.2;
+            lines = appends-next (AreLoopLines (shown c.args.names.now) c.args.f.now) headers done c.block-item.result.id at _ c.loop-block.out.items _ w.in_ok-push_loop.ensures.0 c.loop-block.invariant.lines w.in_ok-push_loop.ensures.1 w.in_ok-push_loop.ensures.2;
             later = rw items (later_after c.args.f.now headers loops done c.loop-block.block-index c.block-item.result (rw items at c.loop-block-test.true) (rw items at c.block-item.is) (rw items at c.loop-block.invariant.later) at);
           })
       | else-is_at w ↦

@@ -1,5 +1,5 @@
 -- The status of a call is that of its mode, and what is seen of it is seen there.
-use Rattle.scev_tool.proofs.Answered.{complete, refuses, limits}
+use Rattle.scev_tool.proofs.Answered.{complete, refuses, names, limits}
 use Rattle.scev_tool.proofs.running.run.Goals.{in-Some, in-None}
 use Rattle.scev_tool.proofs.running.run.Goals as goal
 
@@ -8,7 +8,12 @@ returns-clause-complete g c = λ which bytes m asked left short spelled reads wr
     elim c.match-mode_of.branch [
       | in-Some w ↦
           rw w.status-is
-          (complete _ bytes (record { which = which; asked = asked; left = left; no_read_fault = rw w.source-is at reads }) _ m
+          (complete _ bytes (record {
+            which = which;
+            asked = asked;
+            left = left;
+            no_read_fault = rw w.source-is at reads;
+          }) _ m
           w.answer-status.ensures.answer spelled short (rw w.out-is at writes))
       | in-None w ↦
           let no = rw w.in-None.is at c.mode_of.ensures.none in
@@ -16,12 +21,34 @@ returns-clause-complete g c = λ which bytes m asked left short spelled reads wr
     ]
 
 pub returns-clause-refuses : goal.returns-clause-refuses
-returns-clause-refuses g c = λ which bytes asked left short none reads.
+returns-clause-refuses g c = λ which bytes place asked left short none reads.
     elim c.match-mode_of.branch [
       | in-Some w ↦
           rw w.status-is
-          (refuses _ bytes (record { which = which; asked = asked; left = left; no_read_fault = rw w.source-is at reads }) _
-          w.answer-status.ensures.answer none short)
+          (refuses _ bytes (record {
+            which = which;
+            asked = asked;
+            left = left;
+            no_read_fault = rw w.source-is at reads;
+          }) _
+          place w.answer-status.ensures.answer none short)
+      | in-None w ↦
+          let no = rw w.in-None.is at c.mode_of.ensures.none in
+          let never : ⊥ = no which asked in absurd never
+    ]
+
+pub returns-clause-names : goal.returns-clause-names
+returns-clause-names g c = λ which bytes word place asked left short none reads.
+    elim c.match-mode_of.branch [
+      | in-Some w ↦
+          rw w.status-is
+          (names _ bytes (record {
+            which = which;
+            asked = asked;
+            left = left;
+            no_read_fault = rw w.source-is at reads;
+          }) _
+          word place w.answer-status.ensures.answer none short)
       | in-None w ↦
           let no = rw w.in-None.is at c.mode_of.ensures.none in
           let never : ⊥ = no which asked in absurd never
@@ -32,7 +59,12 @@ returns-clause-limits g c = λ which bytes asked left long reads.
     elim c.match-mode_of.branch [
       | in-Some w ↦
           rw w.status-is
-          (limits _ bytes (record { which = which; asked = asked; left = left; no_read_fault = rw w.source-is at reads }) _
+          (limits _ bytes (record {
+            which = which;
+            asked = asked;
+            left = left;
+            no_read_fault = rw w.source-is at reads;
+          }) _
           w.answer-status.ensures.answer long)
       | in-None w ↦
           let no = rw w.in-None.is at c.mode_of.ensures.none in

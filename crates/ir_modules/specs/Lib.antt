@@ -1,2 +1,0 @@
-pub mod ItemsReading
-pub mod ModuleReading

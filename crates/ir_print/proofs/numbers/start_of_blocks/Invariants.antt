@@ -1,6 +1,0 @@
-use Rattle.std.proofs.Common.{◌≡◌, take, map}
-use Rattle.ir_print.specs.Counting.{start_of}
-use Rattle.ir_print.proofs.numbers.start_of_blocks.Given as goal
-
-abbrev pub invariant-loop-label : goal.invariant-loop-label
-invariant-loop-label l = l.numbers ≡ map start_of (take l.label-index l.labels)

@@ -1,8 +1,0 @@
-use Rattle.std.proofs.Common.{rules}
-use Rattle.ir_print.specs.Shown.{shown}
-use Rattle.ir_print.proofs.Numbered.{walked_shown}
-use Rattle.ir_print.proofs.shown.Names.of.Goals as goal
-
-pub returns : goal.returns
-unfolding shown
-returns c = walked_shown c.args.globals.now c.args.function.now c.walk_function-2.new.numbers c.requires (search rules)

@@ -1,9 +1,0 @@
-use Rattle.std.proofs.Common.{◌≡◌, take, fold}
-use Rattle.std.specs.List.{flat_map}
-use Rattle.ir_text.specs.Sites.{block_sites}
-use Rattle.ir_print.specs.Counting.{counted}
-use Rattle.ir_print.proofs.walk.walk_blocks.Given as goal
-
-abbrev pub invariant-loop-block : goal.invariant-loop-block
-invariant-loop-block l = l.numbers
-    ≡ fold (counted l.uses) l.initial.numbers (flat_map block_sites (take l.block-index l.blocks))

@@ -1,4 +1,0 @@
-pub mod Counting
-pub mod Shown
-pub mod Kinds
-pub mod Parts

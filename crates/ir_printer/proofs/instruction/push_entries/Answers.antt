@@ -1,7 +1,0 @@
-use Rattle.std.proofs.Common.{codes}
-use Rattle.ir_printer.proofs.Joined.{joined_all}
-use Rattle.ir_printer.proofs.instruction.push_entries.Goals as goal
-
-pub returns : goal.returns
-returns c =
-    joined_all _ (codes ", ") _ _ _ _ _ _ _ c.in-Some.ensures.cases.0 c.in_ok-push_entry.ensures c.loop-entry.invariant c.loop-entry-test.false

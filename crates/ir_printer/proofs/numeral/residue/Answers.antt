@@ -1,0 +1,9 @@
+use mir.Syntax.{w128}
+use Rattle.std.proofs.lemmas.Int.{to_z-of_z}
+use Rattle.ir_printer.proofs.Residues.{residue_of_bits}
+use Rattle.ir_printer.proofs.numeral.residue.Goals as goal
+
+pub returns-clause-value : goal.returns-clause-value
+returns-clause-value c =
+    rw (c.cast_unsigned.ensures, c.modulus.ensures.value, to_z-of_z w128 c.args.n c.ranges.n)
+    (residue_of_bits c.args.n c.args.width c.requires c.ranges.n)
