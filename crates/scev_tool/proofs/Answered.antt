@@ -10,6 +10,7 @@ use Rattle.scev_tool.specs.declared.status.Status.{Status}
 use Rattle.scev_tool.specs.declared.status.Status.TheVariants as status
 use Rattle.scev_tool.specs.declared.mode.Mode.{Mode}
 use Rattle.scev_tool.specs.declared.mode.Mode.TheVariants as mode
+use Rattle.scev_tool.specs.Status.{Refuses}
 use Rattle.scev_tool.specs.Mode.{AskFor, IsTextOf}
 use Rattle.scev_tool.specs.Answer.{Seen, OfInput, IsAnswer, input_limit}
 
@@ -63,47 +64,56 @@ module _ (seen : Seen) (bytes : List ℕ) (call : Call seen bytes) where
   complete status.WriteFault m h spelled short writes = absurd (writes h.2.0)
   complete status.OutOfMemory m h spelled short writes = inr refl
 
-  -- What spells no module is refused at its place,
-  pub refuses : (s : Status) (place : ℕ) → IsAnswer seen s → IsNotInGrammar bytes place → length bytes ≤ input_limit
-      → (s ≡ status.NotInGrammar place) ⊎ (s ≡ status.OutOfMemory)
-  refuses status.Done place h none short =
-      let text = (held _ h.2).1 in absurd (spelled_by h.0 bytes text.0 text.1 none.refusal.none)
-  refuses status.Usage place h none short = absurd (h call.which call.asked)
-  refuses status.ReadFault place h none short = absurd (call.no_read_fault h.2)
-  refuses status.TooLong place h none short =
+  -- What spells no module is refused:
+  pub refuses : (s : Status) → IsAnswer seen s → SpellsNone bytes → length bytes ≤ input_limit
+      → Refuses s ⊎ (s ≡ status.OutOfMemory)
+  refuses status.Done h none short = let text = (held _ h.2).1 in absurd (spelled_by h.0 bytes text.0 text.1 none)
+  refuses status.Usage h none short = absurd (h call.which call.asked)
+  refuses status.ReadFault h none short = absurd (call.no_read_fault h.2)
+  refuses status.TooLong h none short =
       let long : input_limit < length bytes = rw call.left at h.2 in absurd (omega arith)
-  refuses (status.NotInGrammar at) place h none short =
-      inl (ap status.NotInGrammar (one_place bytes at place (refused at h) none))
-  refuses (status.Unsupported word at) place h none short =
-      absurd (not_both bytes place word at none (left_out word at h))
-  refuses (status.Ill rule function block) place h none short = absurd h
-  refuses status.NoFunction place h none short = absurd h
-  refuses status.BadArgs place h none short = absurd h
-  refuses status.WriteFault place h none short =
-      let text = (held _ h.2.1).1 in absurd (spelled_by h.0 bytes text.0 text.1 none.refusal.none)
-  refuses status.OutOfMemory place h none short = inr refl
+  refuses (status.NotInGrammar at) h none short = inl tt
+  refuses (status.Unsupported word at) h none short = inl tt
+  refuses (status.Ill rule function place) h none short = absurd h
+  refuses status.NoFunction h none short = absurd h
+  refuses status.BadArgs h none short = absurd h
+  refuses status.WriteFault h none short =
+      let text = (held _ h.2.1).1 in absurd (spelled_by h.0 bytes text.0 text.1 none)
+  refuses status.OutOfMemory h none short = inr refl
 
-  -- or named, where it is left out by name.
+  -- where it is refused without a name, at its place,
+  pub places : (s : Status) (place : ℕ) → IsAnswer seen s → IsNotInGrammar bytes place → length bytes ≤ input_limit
+      → (s ≡ status.NotInGrammar place) ⊎ (s ≡ status.OutOfMemory)
+  places s place h none short = elim (refuses s h none.refusal.none short) [
+    | inl refused ↦ at_its_place s h refused
+    | inr out ↦ inr out
+  ]
+    where
+      at_its_place : (s : Status) → IsAnswer seen s → Refuses s
+          → (s ≡ status.NotInGrammar place) ⊎ (s ≡ status.OutOfMemory)
+      at_its_place (status.NotInGrammar at) h refuses =
+          inl (ap status.NotInGrammar (one_place bytes at place (refused at h) none))
+      at_its_place (status.Unsupported word at) h refuses =
+          absurd (not_both bytes place word at none (left_out word at h))
+      at_its_place _ h refuses = absurd refuses
+
+  -- and else under its name.
   pub names : (s : Status) (number place : ℕ) → IsAnswer seen s → IsUnsupported bytes number place
       → length bytes ≤ input_limit
       → (s ≡ status.Unsupported number place) ⊎ (s ≡ status.OutOfMemory)
-  names status.Done number place h none short =
-      let text = (held _ h.2).1 in absurd (spelled_by h.0 bytes text.0 text.1 none.refusal.none)
-  names status.Usage number place h none short = absurd (h call.which call.asked)
-  names status.ReadFault number place h none short = absurd (call.no_read_fault h.2)
-  names status.TooLong number place h none short =
-      let long : input_limit < length bytes = rw call.left at h.2 in absurd (omega arith)
-  names (status.NotInGrammar at) number place h none short =
-      absurd (not_both bytes at number place (refused at h) none)
-  names (status.Unsupported word at) number place h none short =
-      let same = one_number_and_place bytes word at number place (left_out word at h) none in
-      inl (ap (λ (n : ℕ). status.Unsupported n at) same.0 ∙ ap (status.Unsupported number) same.1)
-  names (status.Ill rule function block) number place h none short = absurd h
-  names status.NoFunction number place h none short = absurd h
-  names status.BadArgs number place h none short = absurd h
-  names status.WriteFault number place h none short =
-      let text = (held _ h.2.1).1 in absurd (spelled_by h.0 bytes text.0 text.1 none.refusal.none)
-  names status.OutOfMemory number place h none short = inr refl
+  names s number place h none short = elim (refuses s h none.refusal.none short) [
+    | inl refused ↦ under_its_name s h refused
+    | inr out ↦ inr out
+  ]
+    where
+      under_its_name : (s : Status) → IsAnswer seen s → Refuses s
+          → (s ≡ status.Unsupported number place) ⊎ (s ≡ status.OutOfMemory)
+      under_its_name (status.NotInGrammar at) h refuses =
+          absurd (not_both bytes at number place (refused at h) none)
+      under_its_name (status.Unsupported word at) h refuses =
+          let same = one_number_and_place bytes word at number place (left_out word at h) none in
+          inl (ap (λ (n : ℕ). status.Unsupported n at) same.0 ∙ ap (status.Unsupported number) same.1)
+      under_its_name _ h refuses = absurd refuses
 
   -- What is longer than the limit is refused as such.
   pub limits : (s : Status) → IsAnswer seen s → input_limit < length bytes

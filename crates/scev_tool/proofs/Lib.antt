@@ -1,7 +1,6 @@
 pub mod Adding
 pub mod Answered
 pub mod Headers
-pub mod Items
 pub mod OneReport
 pub mod Phis
 pub mod Pieces

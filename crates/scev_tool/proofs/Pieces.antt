@@ -14,10 +14,6 @@ in_pieces-push Is [] x text piece h one =
 in_pieces-push Is (y ∷ ys) x text piece h one =
     (h.0, h.1 ++ piece, rw h.2 (append_assoc h.0 h.1 piece), h.3, in_pieces-push Is ys x h.1 piece h.4 one)
 
--- none so far
-pub appends_none : {A : Type 0} (Is : A → List ℕ → Type 0) (old : List ℕ) → AppendsPieces Is [] old old
-appends_none Is old = ([], refl, sym (append-nil old))
-
 -- one piece more
 pub appends-push : {A : Type 0} (Is : A → List ℕ → Type 0) (xs : List A) (x : A) (old mid new piece : List ℕ) → AppendsPieces Is xs old mid → Is x piece → new ≡ mid ++ piece → AppendsPieces Is (xs ++ x ∷ []) old new
 appends-push Is xs x old mid new piece h one added =

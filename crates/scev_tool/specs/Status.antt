@@ -22,3 +22,9 @@ abbrev pub LeavesOutput : Status → Type 0
 LeavesOutput Done = ⊥
 LeavesOutput WriteFault = ⊥
 LeavesOutput _ = Unit {0}
+
+-- The input is refused, at a place or at what is left out by name.
+abbrev pub Refuses : Status → Type 0
+Refuses (NotInGrammar at) = Unit {0}
+Refuses (Unsupported word at) = Unit {0}
+Refuses _ = ⊥

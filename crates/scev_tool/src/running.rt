@@ -2,14 +2,14 @@
 
 ghost use Rattle.std.specs.Prelude.{◌≡◌, ◌≤◌, ◌<◌, ◌⊎◌, ℕ, List, length, Some};
 ghost use Rattle.ir_model.specs.declared.item.Module.{Module};
-ghost use Rattle.ir_grammar.specs.Spelled.{Spells, IsNotInGrammar, IsUnsupported};
+ghost use Rattle.ir_grammar.specs.Spelled.{Spells, SpellsNone, IsNotInGrammar, IsUnsupported};
 ghost use Rattle.scev_outside.specs.Bytes.{Gave};
 ghost use Rattle.scev_outside.specs.Faults.{Rose};
 ghost use Rattle.scev_tool.specs.Message.{message, AddsUnlessFaulty};
 ghost use Rattle.scev_tool.specs.Answer.{IsAnswer, input_limit};
 ghost use Rattle.scev_tool.specs.Mode.{AskFor};
 ghost use Rattle.scev_tool.specs.declared.mode.Mode.{Mode};
-ghost use Rattle.scev_tool.specs.Status.{LeavesOutput};
+ghost use Rattle.scev_tool.specs.Status.{LeavesOutput, Refuses};
 
 use crate::answer::answer;
 use crate::message::write_message;
@@ -59,8 +59,12 @@ pub fn run<S: Source, K: Sink, E: Sink>(
         (Rose (K.faults out.old) (K.faults out.new) → ⊥) →
         (result ≡ Status.Done) ⊎ (result ≡ Status.OutOfMemory) }
 
-    // What spells none within the limit is refused at its place, on the same conditions; and what is longer.
-    ensures refuses { (mode : Mode) (bytes : List ℕ) (at : ℕ) → AskFor mode words.now →
+    // What spells none within the limit is refused, at its place and under its name, on the same conditions; and what is
+    // longer.
+    ensures refuses { (mode : Mode) (bytes : List ℕ) → AskFor mode words.now → S.left source.old ≡ Some bytes →
+        length bytes ≤ input_limit → SpellsNone bytes →
+        (Rose (S.faults source.old) (S.faults source.new) → ⊥) → Refuses result ⊎ (result ≡ Status.OutOfMemory) }
+    ensures places { (mode : Mode) (bytes : List ℕ) (at : ℕ) → AskFor mode words.now →
         S.left source.old ≡ Some bytes → length bytes ≤ input_limit → IsNotInGrammar bytes at →
         (Rose (S.faults source.old) (S.faults source.new) → ⊥) →
         (result ≡ Status.NotInGrammar at) ⊎ (result ≡ Status.OutOfMemory) }

@@ -1,5 +1,5 @@
 -- The status of a call is that of its mode, and what is seen of it is seen there.
-use Rattle.scev_tool.proofs.Answered.{complete, refuses, names, limits}
+use Rattle.scev_tool.proofs.Answered.{complete, refuses, places, names, limits}
 use Rattle.scev_tool.proofs.running.run.Goals.{in-Some, in-None}
 use Rattle.scev_tool.proofs.running.run.Goals as goal
 
@@ -21,11 +21,28 @@ returns-clause-complete g c = λ which bytes m asked left short spelled reads wr
     ]
 
 pub returns-clause-refuses : goal.returns-clause-refuses
-returns-clause-refuses g c = λ which bytes place asked left short none reads.
+returns-clause-refuses g c = λ which bytes asked left short none reads.
     elim c.match-mode_of.branch [
       | in-Some w ↦
           rw w.status-is
           (refuses _ bytes (record {
+            which = which;
+            asked = asked;
+            left = left;
+            no_read_fault = rw w.source-is at reads;
+          }) _
+          w.answer-status.ensures.answer none short)
+      | in-None w ↦
+          let no = rw w.in-None.is at c.mode_of.ensures.none in
+          let never : ⊥ = no which asked in absurd never
+    ]
+
+pub returns-clause-places : goal.returns-clause-places
+returns-clause-places g c = λ which bytes place asked left short none reads.
+    elim c.match-mode_of.branch [
+      | in-Some w ↦
+          rw w.status-is
+          (places _ bytes (record {
             which = which;
             asked = asked;
             left = left;
