@@ -11,9 +11,10 @@ use Rattle.ir_model.specs.declared.function.Instr.{Instr}
 use Rattle.ir_model.specs.declared.function.Block.{Block}
 use Rattle.ir_model.specs.declared.function.Function.{Function}
 use Rattle.ir_meaning.specs.Run.{GivesTo}
-use Rattle.ir_meaning.specs.Step.{block_of}
+use Rattle.ir_model.specs.Shapes.{block_of}
 use Rattle.ir_meaning.proofs.RegisterChanges.{GivenOnlyAt}
-use Rattle.classify.specs.Names.{NamesAreOnce, result_of, instructions, defined_values, used_values, defined_blocks, used_blocks}
+use Rattle.ir_model.specs.Shapes.{result_of, instructions, defined_values, used_values, defined_blocks, used_blocks}
+use Rattle.classify.specs.Names.{NamesAreOnce}
 
 -- how often a list has a number
 abbrev pub times : ℕ → List ℕ → ℕ

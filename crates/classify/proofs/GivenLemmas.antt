@@ -9,10 +9,11 @@ use Rattle.ir_model.specs.declared.function.Instr.{Instr}
 use Rattle.ir_model.specs.declared.function.Block.{Block}
 use Rattle.ir_model.specs.declared.function.Function.{Function}
 use Rattle.ir_meaning.specs.Run.{GivesTo}
-use Rattle.ir_meaning.specs.Step.{block_of}
+use Rattle.ir_model.specs.Shapes.{block_of}
 use Rattle.ir_meaning.specs.Thin.{HasResult, AreThinInstrs, IsThinFunction}
 use Rattle.ir_meaning.proofs.ListPlaces.{contained_at, all_at, found_there}
-use Rattle.classify.specs.Names.{NamesAreOnce, defined_blocks, used_blocks}
+use Rattle.ir_model.specs.Shapes.{defined_blocks, used_blocks}
+use Rattle.classify.specs.Names.{NamesAreOnce}
 use Rattle.classify.specs.Definitions.{Found, IsGivenAt, AreDefinitions}
 use Rattle.classify.specs.Recurrence.{Has}
 use Rattle.classify.proofs.DefinedOnce.{times, one_or_none, times_cons, counted, mapped_counts, only_in_block}

@@ -18,7 +18,8 @@ use Rattle.ir_meaning.specs.declared.value.Value.TheVariants as value
 use Rattle.ir_meaning.specs.State.{Registers}
 use Rattle.ir_meaning.specs.Operands.{of_type, operand_value}
 use Rattle.ir_meaning.specs.Rows.{on_numbers, added}
-use Rattle.ir_meaning.specs.Step.{Gives, with_value, effect, is_phi}
+use Rattle.ir_model.specs.Shapes.{is_phi}
+use Rattle.ir_meaning.specs.Step.{Gives, with_value, effect}
 use Rattle.classify.specs.Recurrence.{IsNumeral, Increments}
 
 -- poison, or this number

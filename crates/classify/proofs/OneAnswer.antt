@@ -14,7 +14,7 @@ use Rattle.ir_model.specs.declared.function.Instr.{Instr}
 use Rattle.ir_model.specs.declared.function.Block.{Block}
 use Rattle.ir_model.specs.declared.function.Function.{Function}
 use Rattle.ir_meaning.specs.Run.{GivesTo}
-use Rattle.ir_meaning.specs.Step.{block_of}
+use Rattle.ir_model.specs.Shapes.{block_of}
 use Rattle.ir_meaning.proofs.ListPlaces.{contained_at}
 use Rattle.classify.specs.Names.{NamesAreOnce}
 use Rattle.classify.specs.Recurrence.{IsNumeral, Increments, Has, entries_from, other_entries, IsRecurrence, IsAnswer}

@@ -6,7 +6,7 @@ use Rattle.std.proofs.lemmas.Option.{slice_get_within, get_or_from_slice_get}
 use Rattle.scev_base.specs.declared.ids.BlockId.{BlockId}
 use Rattle.ir_model.specs.declared.function.Instr.{Instr}
 use Rattle.ir_model.specs.declared.function.Function.{Function}
-use Rattle.ir_meaning.specs.Step.{is_phi}
+use Rattle.ir_model.specs.Shapes.{is_phi}
 use Rattle.ir_meaning.specs.Thin.{IsThinFunction}
 use Rattle.ir_meaning.proofs.ListPlaces.{contained_at, kept_at}
 use Rattle.loop_regions.specs.OneBlock.{one_block}

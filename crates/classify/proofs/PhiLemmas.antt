@@ -12,7 +12,7 @@ use Rattle.ir_model.specs.declared.op.Op.TheVariants.{Phi}
 use Rattle.ir_model.specs.declared.function.Instr.{Instr}
 use Rattle.ir_model.specs.declared.function.Block.{Block}
 use Rattle.ir_model.specs.declared.function.Function.{Function}
-use Rattle.ir_meaning.specs.Step.{block_of, leading_phis}
+use Rattle.ir_model.specs.Shapes.{block_of, leading_phis}
 use Rattle.classify.specs.Names.{NamesAreOnce}
 use Rattle.classify.specs.Definitions.{IsGivenAt}
 use Rattle.classify.specs.Recurrence.{phis, IsNumeral, Increments, Has, entries_from, other_entries, IsRecurrence}

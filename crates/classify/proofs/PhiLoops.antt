@@ -9,7 +9,7 @@ use Rattle.scev_base.specs.declared.ids.BlockId.{BlockId}
 use Rattle.ir_model.specs.declared.op.Operand.{Operand}
 use Rattle.ir_model.specs.declared.op.PhiEntry.{PhiEntry}
 use Rattle.ir_model.specs.declared.function.Instr.{Instr}
-use Rattle.ir_meaning.specs.Step.{is_phi, leading_phis}
+use Rattle.ir_model.specs.Shapes.{is_phi, leading_phis}
 use Rattle.classify.specs.Recurrence.{phis, IsNumeral, entries_from, other_entries}
 use Rattle.classify.proofs.OneAnswer.{same_numeral, same_start}
 

@@ -17,7 +17,8 @@ use Rattle.ir_meaning.specs.declared.value.Value.{Value}
 use Rattle.ir_meaning.specs.declared.value.Value.TheVariants as value
 use Rattle.ir_meaning.specs.State.{Registers, set, State}
 use Rattle.ir_meaning.specs.Operands.{chosen, operand_value}
-use Rattle.ir_meaning.specs.Step.{Effect, Gives, Enters, Ends, effect, block_of, leading_phis, entry_from, phi_value, with_phis, behind_phis, instr_at}
+use Rattle.ir_model.specs.Shapes.{block_of, leading_phis}
+use Rattle.ir_meaning.specs.Step.{Effect, Gives, Enters, Ends, effect, entry_from, phi_value, with_phis, behind_phis, instr_at}
 use Rattle.ir_meaning.specs.Run.{Run, start, last}
 use Rattle.ir_meaning.specs.Thin.{IsThinFunction}
 use Rattle.ir_meaning.proofs.StepShape.{Stepped, stays, ends, goes_on, enters}
@@ -28,7 +29,7 @@ use Rattle.ir_meaning.proofs.LeadingPhis.{leading_at, phi_before, behind_leading
 use Rattle.ir_meaning.proofs.ThinBlocks.{giving_before_entering}
 use Rattle.loop_regions.specs.Loops.{Loop}
 use Rattle.loop_regions.specs.Turns.{has, turn}
-use Rattle.loop_regions.specs.Walks.{Edge}
+use Rattle.ir_model.specs.Walks.{Edge}
 use Rattle.loop_regions.proofs.TurnSteps.{turn_again, turn_anew}
 use Rattle.loop_regions.proofs.EnteredEdges.{edge_of_entering}
 use Rattle.classify.proofs.AffineValue.{first_turn, next_turn}

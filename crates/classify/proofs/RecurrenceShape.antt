@@ -12,7 +12,8 @@ use Rattle.ir_model.specs.declared.function.Instr.{Instr}
 use Rattle.ir_model.specs.declared.function.Block.{Block}
 use Rattle.ir_model.specs.declared.function.Function.{Function}
 use Rattle.ir_meaning.specs.Run.{GivesTo}
-use Rattle.ir_meaning.specs.Step.{block_of, is_phi, leading_phis, entry_from}
+use Rattle.ir_model.specs.Shapes.{block_of, is_phi, leading_phis}
+use Rattle.ir_meaning.specs.Step.{entry_from}
 use Rattle.ir_meaning.proofs.ListPlaces.{contained_at, all_at, kept_at, found_from_filter, found_there}
 use Rattle.classify.specs.Names.{NamesAreOnce}
 use Rattle.classify.specs.Recurrence.{IsNumeral, Increments, other_entries, IsRecurrence}

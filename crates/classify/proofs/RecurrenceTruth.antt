@@ -9,7 +9,7 @@ use Rattle.ir_model.specs.declared.function.Instr.{Instr}
 use Rattle.ir_model.specs.declared.function.Block.{Block}
 use Rattle.ir_model.specs.declared.function.Function.{Function}
 use Rattle.ir_meaning.specs.State.{State}
-use Rattle.ir_meaning.specs.Step.{block_of, is_phi, leading_phis}
+use Rattle.ir_model.specs.Shapes.{block_of, is_phi, leading_phis}
 use Rattle.ir_meaning.specs.Run.{GivesTo, last, IsFresh}
 use Rattle.ir_meaning.specs.Thin.{IsThinFunction}
 use Rattle.ir_meaning.proofs.LeadingPhis.{leading_at}

@@ -15,8 +15,8 @@ use Rattle.ir_model.specs.declared.function.Instr.{Instr}
 use Rattle.ir_model.specs.declared.function.Block.{Block}
 use Rattle.ir_model.specs.declared.function.Function.{Function}
 use Rattle.ir_meaning.specs.Thin.{IsThinOperand, IsThinGiving, IsThinEnding, HasResult, AreThinInstrs, IsThinFunction}
-use Rattle.loop_regions.specs.Walks.{targets}
-use Rattle.classify.specs.Names.{operands, sources, register_of, result_of, instructions, defined_values, used_values, defined_blocks, used_blocks}
+use Rattle.ir_model.specs.Shapes.{targets}
+use Rattle.ir_model.specs.Shapes.{operands, sources, register_of, result_of, instructions, defined_values, used_values, defined_blocks, used_blocks}
 
 abbrev pub AllBelow : ℕ → List ℕ → Type 0
 AllBelow n ids = All (λ id. id < n) ids

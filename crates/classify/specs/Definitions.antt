@@ -3,7 +3,7 @@ use Rattle.std.specs.Prelude.{◌≡◌, ◌↔◌, ℕ, List, [], ◌∷◌, le
 use Rattle.ir_model.specs.declared.function.Instr.{Instr}
 use Rattle.ir_model.specs.declared.function.Block.{Block}
 use Rattle.ir_model.specs.declared.function.Function.{Function}
-use Rattle.ir_meaning.specs.Step.{leading_phis}
+use Rattle.ir_model.specs.Shapes.{leading_phis}
 use Rattle.classify.specs.Names.{NamesAreOnce}
 use Rattle.classify.specs.Recurrence.{phis}
 

@@ -11,7 +11,7 @@ use Rattle.ir_model.specs.declared.op.Op.TheVariants.{Binary, Phi}
 use Rattle.ir_model.specs.declared.function.Instr.{Instr}
 use Rattle.ir_model.specs.declared.function.Block.{Block}
 use Rattle.ir_model.specs.declared.function.Function.{Function}
-use Rattle.ir_meaning.specs.Step.{block_of, is_phi, leading_phis}
+use Rattle.ir_model.specs.Shapes.{block_of, is_phi, leading_phis}
 use Rattle.classify.specs.Names.{NamesAreOnce}
 
 -- the phis of a block, in order

@@ -1,7 +1,7 @@
 //! Whether the phis of a block come first.
 
 ghost use Rattle.std.specs.Prelude.{◌≡◌, ◌↔◌, IsTrue, IfOk};
-ghost use Rattle.ir_meaning.specs.Step.{leading_phis};
+ghost use Rattle.ir_model.specs.Shapes.{leading_phis};
 ghost use Rattle.classify.specs.Recurrence.{phis};
 ghost use Rattle.classify.specs.Definitions.{TellFirst};
 

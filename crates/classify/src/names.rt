@@ -1,9 +1,9 @@
 //! How often the names of a function are defined, and how often they are used.
 
 ghost use Rattle.std.specs.Prelude.{◌≡◌, ◌++◌, length, map, flat_map, replicate, IfOk};
-ghost use Rattle.loop_regions.specs.Walks.{targets};
+ghost use Rattle.ir_model.specs.Shapes.{targets};
 ghost use Rattle.classify.specs.declared.tally.Often.TheVariants.{Never};
-ghost use Rattle.classify.specs.Names.{operands, sources, register_of, result_of, defined_values, used_values, defined_blocks, used_blocks};
+ghost use Rattle.ir_model.specs.Shapes.{operands, sources, register_of, result_of, defined_values, used_values, defined_blocks, used_blocks};
 ghost use Rattle.classify.specs.Tally.{all_counted};
 
 use crate::tally::Tally;

@@ -2,7 +2,8 @@
 
 ghost use Rattle.std.specs.Prelude.{◌↔◌, IfOk, IsTrue};
 ghost use Rattle.ir_meaning.specs.Thin.{IsThinFunction};
-ghost use Rattle.classify.specs.Names.{AreOnce, defined_values, used_values, defined_blocks, used_blocks};
+ghost use Rattle.ir_model.specs.Shapes.{defined_values, used_values, defined_blocks, used_blocks};
+ghost use Rattle.classify.specs.Names.{AreOnce};
 
 use crate::names::{defined_labels, defined_registers, used_labels, used_registers};
 use crate::tally::are_once;

@@ -11,7 +11,7 @@ use Rattle.ir_text.specs.Listed.{word, sign}
 use Rattle.ir_text.specs.Language.{Language, ◌·◌, one}
 use Rattle.ir_text.specs.PassedOn.{spaced, passed_text, attachments}
 use Rattle.ir_text.specs.Mentions.{Mentioning, ◌⊙◌, silent}
-use Rattle.ir_text.specs.Types.{IsInt, IsStored}
+use Rattle.ir_model.specs.Kinds.{IsInt, IsStored}
 use Rattle.ir_grammar.specs.Operations.{SpellsOperand, SpellsPointer, SpellsAlign, alignment, the_comma, the_type}
 use Rattle.ir_parts.specs.Reading.{begins}
 use Rattle.ir_parts.specs.TypeReading.{is_numeral_kind}

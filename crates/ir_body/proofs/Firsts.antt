@@ -4,7 +4,7 @@ use Rattle.std.specs.Str.{bytes_eq}
 use Rattle.ir_model.specs.declared.types.IrType.{IrType}
 use Rattle.ir_text.specs.Tokens.{Lexeme}
 use Rattle.ir_text.specs.Mentions.{Mention, Mentioning, ◌⊙◌}
-use Rattle.ir_text.specs.Types.{IsScalar}
+use Rattle.ir_model.specs.Kinds.{IsScalar}
 use Rattle.ir_grammar.specs.Operations.{the_word, the_type}
 use Rattle.ir_parts.specs.Reading.{begins, is_keyword}
 use Rattle.ir_body.proofs.FlagReaders.{scalar_is_no}

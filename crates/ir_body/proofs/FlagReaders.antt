@@ -4,10 +4,12 @@ use Rattle.std.specs.Str.{bytes_eq}
 use Rattle.ir_model.specs.declared.types.IrType.{IrType}
 use Rattle.ir_model.specs.declared.types.IrType.TheVariants.{Int, Ptr}
 use Rattle.ir_text.specs.Tokens.{Lexeme}
-use Rattle.ir_text.specs.Types.{IsScalar, SpellsTypeOf}
+use Rattle.ir_model.specs.Kinds.{IsScalar}
+use Rattle.ir_text.specs.Types.{SpellsTypeOf}
 use Rattle.ir_text.specs.Listed.{word}
 use Rattle.ir_text.specs.Language.{nothing, keyword}
-use Rattle.ir_grammar.specs.Operations.{Exact, Disjoint, NoFlag, BinaryFlags, SpellsBinaryFlags, SpellsFlag}
+use Rattle.ir_model.specs.Kinds.{Exact, Disjoint, NoFlag}
+use Rattle.ir_grammar.specs.Operations.{BinaryFlags, SpellsBinaryFlags, SpellsFlag}
 use Rattle.ir_parts.specs.Reading.{begins, is_keyword, pure}
 use Rattle.ir_parts.proofs.Readers.{StopsAt, IsReader, Anything, of_language, mapped}
 use Rattle.ir_parts.proofs.SingleTokens.{is_itself, keyword_reads}

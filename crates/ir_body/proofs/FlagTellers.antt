@@ -6,7 +6,8 @@ use Rattle.ir_text.specs.Tokens.{Lexeme}
 use Rattle.ir_text.specs.Language.{Language}
 use Rattle.ir_text.specs.PassedOn.{is_among}
 use Rattle.ir_text.specs.Mentions.{Mention, Mentioning, ◌⊙◌, silent}
-use Rattle.ir_grammar.specs.Operations.{FlagKind, Wraps, Exact, Disjoint, NoFlag, AreFlags, IsFlag, SpellsBinaryFlags, SpellsGepFlags}
+use Rattle.ir_model.specs.Kinds.{FlagKind, Wraps, Exact, Disjoint, NoFlag}
+use Rattle.ir_grammar.specs.Operations.{AreFlags, IsFlag, SpellsBinaryFlags, SpellsGepFlags}
 use Rattle.ir_parts.specs.Reading.{go_on, pure, made, begins, is_keyword}
 use Rattle.ir_parts.proofs.Readers.{StopsAt, either}
 use Rattle.ir_body.specs.declared.flags.Flags.{Flags}

@@ -4,7 +4,8 @@ use Rattle.std.specs.List.{flat_map}
 use Rattle.std.proofs.lemmas.List.{append-nil, map-append}
 use Rattle.ir_model.specs.declared.op.Case.{Case}
 use Rattle.ir_text.specs.Mentions.{Mention}
-use Rattle.ir_text.specs.Sites.{Site, UsesBlock, bare_case}
+use Rattle.ir_model.specs.Sites.{Site, UsesBlock}
+use Rattle.ir_text.specs.Sites.{bare_case}
 use Rattle.ir_lex.specs.Tokenized.{Tokenized}
 use Rattle.ir_parts.specs.declared.fault.ItemFault.{ItemFault}
 use Rattle.ir_parts.specs.Reading.{left_from, go_on, pure, punctuation_at, ◌▷◌, ReadsAs, Passes}

@@ -8,7 +8,7 @@ use Rattle.ir_model.specs.declared.op.Op.TheVariants.{Gep, Phi}
 use Rattle.ir_text.specs.Tokens.{Lexeme}
 use Rattle.ir_text.specs.Mentions.{Mention, Mentioning, ◌⊙◌, silent, InOrder}
 use Rattle.ir_text.specs.PassedOn.{attachments}
-use Rattle.ir_text.specs.Types.{IsScalar, IsStored}
+use Rattle.ir_model.specs.Kinds.{IsScalar, IsStored}
 use Rattle.ir_grammar.specs.Operations.{SpellsTyped, SpellsPointer, SpellsGepFlags, SpellsEntry, the_comma, the_type}
 use Rattle.ir_parts.specs.Reading.{begins, is_keyword}
 use Rattle.ir_parts.specs.MetadataReading.{is_metadata}

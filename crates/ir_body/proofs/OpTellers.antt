@@ -8,7 +8,7 @@ use Rattle.ir_text.specs.Listed.{word}
 use Rattle.ir_text.specs.PassedOn.{attachments}
 use Rattle.ir_text.specs.Mentions.{Mention, Mentioning, ◌⊙◌, silent}
 use Rattle.ir_grammar.specs.Operations.{SpellsOp, SpellsTyped, SpellsEntry, binary_text, cast_text, the_word}
-use Rattle.ir_grammar.specs.Functions.{MayHaveResult}
+use Rattle.ir_model.specs.Shapes.{MayHaveResult}
 use Rattle.ir_parts.proofs.Readers.{stops_at_all}
 use Rattle.ir_parts.proofs.MetadataReaders.{NoComma, attachments_read}
 use Rattle.ir_body.specs.declared.opcode.Opcode.{Opcode}

@@ -14,7 +14,8 @@ use Rattle.ir_text.specs.Written.{Name, Text}
 use Rattle.ir_text.specs.Said.{said_local, said_global}
 use Rattle.ir_text.specs.Mentions as mention
 use Rattle.ir_text.specs.Mentions.{Mention}
-use Rattle.ir_text.specs.Sites.{bare_operand, operand_sites}
+use Rattle.ir_model.specs.Sites.{operand_sites}
+use Rattle.ir_text.specs.Sites.{bare_operand}
 use Rattle.ir_lex.specs.Tokenized.{Tokenized, lexemes}
 use Rattle.ir_parts.specs.Reading.{left_from, first_given}
 use Rattle.ir_parts.specs.Places.{said_at, mentions_at}

@@ -11,7 +11,8 @@ use Rattle.ir_model.specs.declared.op.Op.TheVariants.{Binary, Icmp, Freeze, Jump
 use Rattle.ir_text.specs.Tokens.{Lexeme}
 use Rattle.ir_text.specs.Listed.{word}
 use Rattle.ir_text.specs.Mentions.{Mention, Mentioning, ◌⊙◌, silent}
-use Rattle.ir_grammar.specs.Operations.{flag_kind, SpellsBinaryFlags, SpellsOperand, SpellsBlockName, SpellsTyped, SpellsTarget, SpellsTwo, the_word, the_comma, dropped_word, pred_text}
+use Rattle.ir_model.specs.Kinds.{flag_kind}
+use Rattle.ir_grammar.specs.Operations.{SpellsBinaryFlags, SpellsOperand, SpellsBlockName, SpellsTyped, SpellsTarget, SpellsTwo, the_word, the_comma, dropped_word, pred_text}
 use Rattle.ir_parts.specs.Reading.{Read, begins, is_keyword}
 use Rattle.ir_parts.proofs.Readers.{IsReader, Anything, chosen}
 use Rattle.ir_parts.proofs.NoneGoesOn.{refused_there}

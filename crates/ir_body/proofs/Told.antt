@@ -1,7 +1,7 @@
 -- The mentions of what was read one after another.
 use Rattle.std.proofs.Common.{◌≡◌, ℕ, List, [], ◌∷◌, ◌++◌, map, refl, sym, ap, ◌∙◌}
 use Rattle.std.proofs.lemmas.List.{append-nil, map-append}
-use Rattle.ir_text.specs.Sites.{Site}
+use Rattle.ir_model.specs.Sites.{Site}
 use Rattle.ir_lex.specs.Tokenized.{Tokenized}
 use Rattle.ir_parts.specs.Places.{mentions_at, mention_at}
 

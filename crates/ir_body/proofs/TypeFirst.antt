@@ -10,7 +10,8 @@ use Rattle.std.specs.List.{list_all}
 use Rattle.ir_text.specs.Bytes.{is_digit}
 use Rattle.ir_text.specs.declared.token.TokenKind.TheVariants.{Word}
 use Rattle.ir_text.specs.Tokens.{Lexeme}
-use Rattle.ir_text.specs.Types.{IsIntType, IsScalar, IsStored, SpellsTypeOf}
+use Rattle.ir_model.specs.Kinds.{IsScalar, IsStored}
+use Rattle.ir_text.specs.Types.{IsIntType, SpellsTypeOf}
 use Rattle.ir_grammar.specs.Operations.{the_type}
 use Rattle.ir_parts.specs.Reading.{given, one_at, begins, is_keyword, is_word_kind}
 use Rattle.ir_parts.specs.TypeReading.{int_width_of, int_width}

@@ -11,7 +11,7 @@ use Rattle.ir_model.specs.declared.op.Op.TheVariants.{Cast, Select}
 use Rattle.ir_text.specs.Tokens.{Lexeme}
 use Rattle.ir_text.specs.Language.{Language, ◌·◌, nothing}
 use Rattle.ir_text.specs.Mentions.{Mention, Mentioning, ◌⊙◌, silent}
-use Rattle.ir_text.specs.Types.{IsScalar}
+use Rattle.ir_model.specs.Kinds.{IsScalar}
 use Rattle.ir_grammar.specs.Operations.{SpellsOperand, SpellsTyped, SpellsCastFlags, dropped_word, the_word, the_comma, the_type}
 use Rattle.ir_parts.specs.Reading.{is_keyword, pure}
 use Rattle.ir_parts.specs.Reading as reading

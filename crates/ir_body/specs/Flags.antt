@@ -3,7 +3,7 @@ use Rattle.std.specs.Prelude.{ℕ, Bool, true, false, List, [], ◌∷◌, codes
 use Rattle.ir_model.specs.declared.op.BinOp.{BinOp}
 use Rattle.ir_model.specs.declared.op.CastOp.{CastOp}
 use Rattle.ir_model.specs.declared.op.CastOp.TheVariants as cast
-use Rattle.ir_grammar.specs.Operations.{FlagKind, Wraps, Exact, Disjoint, NoFlag, flag_kind}
+use Rattle.ir_model.specs.Kinds.{FlagKind, Wraps, Exact, Disjoint, NoFlag, flag_kind}
 use Rattle.ir_text.specs.PassedOn.{is_among}
 use Rattle.ir_parts.specs.Reading.{Read, pure, ◌>>=◌, ◌▷◌, made, choose, is_keyword, keyword_at}
 use Rattle.ir_body.specs.declared.flags.Flags.{Flags}

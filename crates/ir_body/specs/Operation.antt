@@ -5,7 +5,7 @@ use Rattle.ir_model.specs.declared.op.Op.TheVariants.{Call}
 use Rattle.ir_text.specs.Mentions.{Mentioning, ◌⊙◌, silent}
 use Rattle.ir_text.specs.PassedOn.{attachments}
 use Rattle.ir_grammar.specs.Operations.{SpellsOp}
-use Rattle.ir_grammar.specs.Functions.{MayHaveResult}
+use Rattle.ir_model.specs.Shapes.{MayHaveResult}
 use Rattle.ir_parts.specs.MetadataReading.{attachments_at}
 use Rattle.ir_body.specs.declared.opcode.Opcode.{Opcode}
 use Rattle.ir_body.specs.declared.opcode.Opcode.TheVariants.{Binary, Cast, Icmp, Select, Phi, Freeze, Alloca, Load, Store, Gep, Br, Switch, Ret, Unreachable}

@@ -5,7 +5,8 @@ use Rattle.scev_base.specs.declared.ids.BlockId.{BlockId}
 use Rattle.ir_model.specs.declared.op.Case.{Case}
 use Rattle.ir_model.specs.declared.op.PhiEntry.{PhiEntry}
 use Rattle.ir_model.specs.declared.op.TypedOperand.{TypedOperand}
-use Rattle.ir_text.specs.Sites.{Site, UsesBlock, operand_sites, bare_operand, typed_sites, bare_typed, entry_sites, bare_entry, op_sites, bare_op, bare_case}
+use Rattle.ir_model.specs.Sites.{Site, UsesBlock, operand_sites, typed_sites, entry_sites, op_sites}
+use Rattle.ir_text.specs.Sites.{bare_operand, bare_typed, bare_entry, bare_op, bare_case}
 use Rattle.ir_body.specs.declared.operands.Two.{Two}
 use Rattle.ir_body.specs.declared.operation.Operation.{Operation}
 

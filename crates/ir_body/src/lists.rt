@@ -1,7 +1,8 @@
 //! Operations with a list behind commas, from behind their opcode, with the attachments behind them.
 
 ghost use Rattle.std.specs.Prelude.{◌≡◌, ◌<◌, ◌≤◌, length, IfOk};
-ghost use Rattle.ir_text.specs.Sites.{typed_sites, bare_typed, entry_sites, bare_entry};
+ghost use Rattle.ir_model.specs.Sites.{typed_sites, entry_sites};
+ghost use Rattle.ir_text.specs.Sites.{bare_typed, bare_entry};
 ghost use Rattle.ir_parts.specs.Reading.{left_from, punctuation_at, ◌▷◌, ReadsAs};
 ghost use Rattle.ir_parts.specs.Places.{mentions_at};
 ghost use Rattle.ir_body.specs.Operands.{typed_at};

@@ -8,7 +8,8 @@ use Rattle.ir_text.specs.Tokens.{Lexeme}
 use Rattle.ir_text.specs.Listed.{sign, SeparatedByCommas}
 use Rattle.ir_text.specs.Language.{Language, ◌·◌, one, punctuation}
 use Rattle.ir_text.specs.Mentions.{Mention, Mentioning, ◌⊙◌, silent}
-use Rattle.ir_text.specs.Types.{IsScalar, SpellsTypeOf}
+use Rattle.ir_model.specs.Kinds.{IsScalar}
+use Rattle.ir_text.specs.Types.{SpellsTypeOf}
 use Rattle.ir_text.specs.PassedOn.{SpellsWords}
 use Rattle.ir_grammar.specs.Operations.{SpellsOperand, the_type, the_comma, the_sign, WithCommas, Listing, SpellsArgument}
 use Rattle.ir_grammar.specs.Operations as grammar

@@ -8,7 +8,7 @@ use Rattle.ir_text.specs.Tokens.{Lexeme}
 use Rattle.ir_text.specs.Listed.{word}
 use Rattle.ir_text.specs.Mentions.{Mention, Mentioning, ◌⊙◌}
 use Rattle.ir_text.specs.PassedOn.{ArePieces}
-use Rattle.ir_text.specs.Types.{IsScalar}
+use Rattle.ir_model.specs.Kinds.{IsScalar}
 use Rattle.ir_grammar.specs.Operations.{the_type}
 use Rattle.ir_parts.specs.declared.ending.Ending.{Ending}
 use Rattle.ir_parts.specs.declared.ending.Ending.TheVariants.{Empty, Word, Placing, Placed, Quoted, Closed}

@@ -7,7 +7,7 @@ use Rattle.ir_model.specs.declared.op.Op.TheVariants.{Call}
 use Rattle.ir_text.specs.Tokens.{Lexeme}
 use Rattle.ir_text.specs.Language.{Language, ◌·◌, one}
 use Rattle.ir_text.specs.Mentions.{Mention, Mentioning, ◌⊙◌, silent}
-use Rattle.ir_text.specs.Types.{IsReturned}
+use Rattle.ir_model.specs.Kinds.{IsReturned}
 use Rattle.ir_text.specs.Written.{IsGlobal}
 use Rattle.ir_text.specs.PassedOn.{SpellsWords, attachments}
 use Rattle.ir_grammar.specs.Operations.{SpellsOp, SpellsTail, SpellsArgument, Listing, IsCallee, dropped_word, the_word, the_sign, the_type}

@@ -4,7 +4,8 @@ use Rattle.std.specs.Option.{is_some}
 use Rattle.ir_model.specs.declared.types.IrType.{IrType}
 use Rattle.ir_model.specs.declared.types.IrType.TheVariants.{Int, Ptr}
 use Rattle.ir_text.specs.Tokens.{Lexeme}
-use Rattle.ir_text.specs.Types.{IsScalar, SpellsTypeOf}
+use Rattle.ir_model.specs.Kinds.{IsScalar}
+use Rattle.ir_text.specs.Types.{SpellsTypeOf}
 use Rattle.ir_parts.specs.TypeReading.{scalar_type_at}
 use Rattle.ir_parts.proofs.TypeReaders.{scalar_types}
 use Rattle.ir_text.specs.Written.{Name}

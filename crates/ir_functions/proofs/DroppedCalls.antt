@@ -3,7 +3,8 @@ use Rattle.std.proofs.Common.{◌≡◌, ℕ, Bool, true, false, List, [], ◌++
 use Rattle.ir_text.specs.Tokens.{Lexeme}
 use Rattle.ir_text.specs.Language.{Language, ◌·◌, one, keyword}
 use Rattle.ir_text.specs.Mentions.{Mention, ◌⊙◌, silent}
-use Rattle.ir_text.specs.Types.{IsReturned, SpellsTypeOf}
+use Rattle.ir_model.specs.Kinds.{IsReturned}
+use Rattle.ir_text.specs.Types.{SpellsTypeOf}
 use Rattle.ir_text.specs.PassedOn.{SpellsWords, attachments, in_parentheses}
 use Rattle.ir_grammar.specs.Operations.{SpellsTail}
 use Rattle.ir_grammar.specs.Functions.{IsDroppedCallee, dropped_call}

@@ -12,7 +12,7 @@ use Rattle.ir_text.specs.Language.Many.{none, more}
 use Rattle.ir_text.specs.Written.{IsGlobal}
 use Rattle.ir_text.specs.Said.{said_global}
 use Rattle.ir_text.specs.Mentions.{Mention, Mentioning, ◌⊙◌, silent, InOrder}
-use Rattle.ir_text.specs.Types.{IsReturned}
+use Rattle.ir_model.specs.Kinds.{IsReturned}
 use Rattle.ir_text.specs.PassedOn.{metadata_pairs}
 use Rattle.ir_grammar.specs.Operations.{the_word, the_sign, the_type}
 use Rattle.ir_grammar.specs.Functions.{SpellsBlock}

@@ -8,7 +8,7 @@ use Rattle.ir_text.specs.Tokens.{Lexeme}
 use Rattle.ir_text.specs.Language.{one}
 use Rattle.ir_text.specs.Written.{IsGlobal}
 use Rattle.ir_text.specs.Mentions.{Mention, Mentioning, ◌⊙◌, silent, InOrder}
-use Rattle.ir_text.specs.Types.{IsReturned}
+use Rattle.ir_model.specs.Kinds.{IsReturned}
 use Rattle.ir_text.specs.PassedOn.{SpellsWords, metadata_pairs}
 use Rattle.ir_grammar.specs.Operations.{the_word, the_sign, the_type, Listing}
 use Rattle.ir_grammar.specs.Functions.{SpellsParam, SpellsBlock, SpellsFunction}

@@ -5,7 +5,8 @@ use Rattle.ir_model.specs.declared.op.Op.TheVariants.{Store, Call}
 use Rattle.ir_model.specs.declared.function.Instr.{Instr}
 use Rattle.ir_text.specs.Tokens.{Lexeme}
 use Rattle.ir_text.specs.Mentions.{Mention, DefinesValue}
-use Rattle.ir_grammar.specs.Functions.{is_terminator, is_void, MayHaveResult, GivesValue, SpellsInstr}
+use Rattle.ir_model.specs.Shapes.{is_terminator, is_void, MayHaveResult, GivesValue}
+use Rattle.ir_grammar.specs.Functions.{SpellsInstr}
 use Rattle.ir_parts.proofs.Readers.{either}
 use Rattle.ir_body.specs.declared.operation.Operation.{Operation}
 use Rattle.ir_functions.specs.Lines.{gives_value, instr_of, numbered_instr}

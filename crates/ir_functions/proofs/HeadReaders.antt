@@ -4,7 +4,8 @@ use Rattle.ir_model.specs.declared.types.IrType.{IrType}
 use Rattle.ir_text.specs.Tokens.{Lexeme}
 use Rattle.ir_text.specs.Listed.{word}
 use Rattle.ir_text.specs.Language.{Language, ◌·◌, keyword}
-use Rattle.ir_text.specs.Types.{IsReturned, SpellsTypeOf}
+use Rattle.ir_model.specs.Kinds.{IsReturned}
+use Rattle.ir_text.specs.Types.{SpellsTypeOf}
 use Rattle.ir_text.specs.PassedOn.{passed_text, SpellsWords}
 use Rattle.ir_grammar.specs.Operations.{SpellsFlag, SpellsTail, dropped_word}
 use Rattle.ir_parts.specs.declared.ending.Run.{Run}

@@ -5,7 +5,7 @@ use Rattle.ir_text.specs.Tokens.{Lexeme}
 use Rattle.ir_text.specs.Written.{Name}
 use Rattle.ir_text.specs.Said.{said_label}
 use Rattle.ir_text.specs.Mentions as mention
-use Rattle.ir_text.specs.Sites.{DefinesBlock}
+use Rattle.ir_model.specs.Sites.{DefinesBlock}
 use Rattle.ir_lex.specs.Tokenized.{Tokenized, lexemes}
 use Rattle.ir_parts.specs.Reading.{left_from, first_given, begins}
 use Rattle.ir_parts.specs.Places.{said_at, mentions_at}

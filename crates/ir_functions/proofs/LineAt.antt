@@ -11,7 +11,7 @@ use Rattle.ir_text.specs.Said.{said_local}
 use Rattle.ir_text.specs.Written.{Name}
 use Rattle.ir_text.specs.Mentions.{Mention, DefinesValue}
 use Rattle.ir_text.specs.Sites.{bare_op}
-use Rattle.ir_grammar.specs.Functions.{is_terminator}
+use Rattle.ir_model.specs.Shapes.{is_terminator}
 use Rattle.ir_lex.specs.Tokenized.{Tokenized}
 use Rattle.ir_parts.specs.declared.ending.Ending.{Ending}
 use Rattle.ir_parts.specs.Reading.{punctuation_at}

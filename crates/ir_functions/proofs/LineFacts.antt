@@ -5,7 +5,8 @@ use Rattle.ir_text.specs.Language.{◌·◌}
 use Rattle.ir_text.specs.Mentions.{Mention, Mentioning, ◌⊙◌, silent}
 use Rattle.ir_text.specs.PassedOn.{attachments}
 use Rattle.ir_grammar.specs.Operations.{SpellsOp}
-use Rattle.ir_grammar.specs.Functions.{MayHaveResult, dropped_call}
+use Rattle.ir_model.specs.Shapes.{MayHaveResult}
+use Rattle.ir_grammar.specs.Functions.{dropped_call}
 use Rattle.ir_parts.specs.declared.ending.Ending.{Ending}
 use Rattle.ir_parts.specs.Reading.{begins, is_punctuation}
 use Rattle.ir_parts.specs.Runs.{goes_on}

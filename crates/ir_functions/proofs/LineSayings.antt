@@ -6,7 +6,8 @@ use Rattle.ir_model.specs.declared.function.Instr.{Instr}
 use Rattle.ir_text.specs.Tokens.{Lexeme}
 use Rattle.ir_text.specs.Mentions.{Mention, DefinesValue, Mentioning, ◌⊙◌, silent}
 use Rattle.ir_grammar.specs.Operations.{the_sign}
-use Rattle.ir_grammar.specs.Functions.{is_terminator, MayHaveResult, SpellsResult, SpellsInstr, dropped_instr}
+use Rattle.ir_model.specs.Shapes.{is_terminator, MayHaveResult}
+use Rattle.ir_grammar.specs.Functions.{SpellsResult, SpellsInstr, dropped_instr}
 use Rattle.ir_parts.specs.declared.ending.Ending.{Ending}
 use Rattle.ir_body.specs.declared.operation.Operation.{Operation}
 use Rattle.ir_functions.specs.declared.lines.Line.{Line}

@@ -7,7 +7,8 @@ use Rattle.ir_text.specs.Listed.{word}
 use Rattle.ir_text.specs.Language.{Many}
 use Rattle.ir_text.specs.Language.Many.{none, more}
 use Rattle.ir_text.specs.Mentions.{Mention, Mentioning}
-use Rattle.ir_grammar.specs.Functions.{is_terminator, SpellsInstr, SpellsLine, SpellsInstrs, dropped_instr}
+use Rattle.ir_model.specs.Shapes.{is_terminator}
+use Rattle.ir_grammar.specs.Functions.{SpellsInstr, SpellsLine, SpellsInstrs, dropped_instr}
 use Rattle.ir_parts.specs.declared.ending.Ending.{Ending}
 use Rattle.ir_parts.specs.Reading.{is_punctuation}
 use Rattle.ir_parts.proofs.Readers.{StopsAt}

@@ -6,7 +6,8 @@ use Rattle.ir_model.specs.declared.function.Param.{Param}
 use Rattle.ir_model.specs.declared.function.Instr.{Instr}
 use Rattle.ir_model.specs.declared.function.Block.{Block}
 use Rattle.ir_text.specs.Mentions.{Mention}
-use Rattle.ir_text.specs.Sites.{DefinesValue, typed_sites, instr_sites, block_sites, bare_typed, bare_param, bare_instr, bare_block}
+use Rattle.ir_model.specs.Sites.{DefinesValue, typed_sites, instr_sites, block_sites}
+use Rattle.ir_text.specs.Sites.{bare_typed, bare_param, bare_instr, bare_block}
 use Rattle.ir_lex.specs.Tokenized.{Tokenized}
 use Rattle.ir_parts.specs.declared.ending.Ending.{Ending}
 use Rattle.ir_parts.specs.Places.{mentions_at}

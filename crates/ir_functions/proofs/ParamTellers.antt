@@ -10,7 +10,8 @@ use Rattle.ir_text.specs.Listed.{sign}
 use Rattle.ir_text.specs.Language.{Language, ◌·◌}
 use Rattle.ir_text.specs.Said.{said_local}
 use Rattle.ir_text.specs.Mentions.{Mention, DefinesValue, Mentioning, ◌⊙◌, silent, defines_value, unwritten}
-use Rattle.ir_text.specs.Types.{IsScalar, SpellsTypeOf}
+use Rattle.ir_model.specs.Kinds.{IsScalar}
+use Rattle.ir_text.specs.Types.{SpellsTypeOf}
 use Rattle.ir_text.specs.PassedOn.{SpellsWords}
 use Rattle.ir_grammar.specs.Operations.{the_type}
 use Rattle.ir_grammar.specs.Functions.{SpellsParam}

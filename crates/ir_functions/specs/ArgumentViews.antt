@@ -1,7 +1,8 @@
 -- Arguments without ids, and the ids in them.
 use Rattle.std.specs.Prelude.{List, map}
 use Rattle.std.specs.List.{flat_map}
-use Rattle.ir_text.specs.Sites.{Site, typed_sites, bare_typed}
+use Rattle.ir_model.specs.Sites.{Site, typed_sites}
+use Rattle.ir_text.specs.Sites.{bare_typed}
 use Rattle.ir_functions.specs.declared.arguments.Argument.{Argument}
 use Rattle.ir_functions.specs.declared.argument_list.Arguments.{Arguments}
 

@@ -9,7 +9,7 @@ use Rattle.ir_text.specs.Tokens.{Lexeme}
 use Rattle.ir_text.specs.Written.{Name}
 use Rattle.ir_text.specs.Said.{said_local}
 use Rattle.ir_text.specs.Mentions.{Mention, DefinesValue}
-use Rattle.ir_grammar.specs.Functions.{is_terminator, is_void}
+use Rattle.ir_model.specs.Shapes.{is_terminator, is_void}
 use Rattle.ir_parts.specs.declared.ending.Ending.{Ending}
 use Rattle.ir_parts.specs.Reading.{one_at, choose}
 use Rattle.ir_parts.specs.Reading as reading

@@ -6,7 +6,8 @@ use Rattle.scev_base.specs.declared.ids.ValueId.{ValueId}
 use Rattle.ir_model.specs.declared.function.Param.{Param}
 use Rattle.ir_model.specs.declared.function.Instr.{Instr}
 use Rattle.ir_model.specs.declared.function.Block.{Block}
-use Rattle.ir_text.specs.Sites.{Site, DefinesValue, instr_sites, block_sites, bare_param, bare_instr, bare_block}
+use Rattle.ir_model.specs.Sites.{Site, DefinesValue, instr_sites, block_sites}
+use Rattle.ir_text.specs.Sites.{bare_param, bare_instr, bare_block}
 use Rattle.ir_parts.specs.declared.ending.Ending.{Ending}
 use Rattle.ir_body.specs.declared.operation.Operation.{Operation}
 use Rattle.ir_body.specs.Views.{bare_operation, operation_sites}

@@ -3,7 +3,8 @@
 ghost use Rattle.std.specs.Prelude.{◌≡◌, ◌-◌, ◌<◌, ◌≤◌, length, take, IfOk, IfErr, IfSome};
 ghost use Rattle.std.specs.Option.{option_map};
 ghost use Rattle.ir_parts.specs.declared.fault.ItemFault.TheVariants.{OutOfMemory};
-ghost use Rattle.ir_text.specs.Sites.{operand_sites, bare_operand};
+ghost use Rattle.ir_model.specs.Sites.{operand_sites};
+ghost use Rattle.ir_text.specs.Sites.{bare_operand};
 ghost use Rattle.ir_parts.specs.Reading.{left_from, begins, ReadsAs};
 ghost use Rattle.ir_parts.specs.Places.{mentions_at};
 ghost use Rattle.ir_functions.specs.Arguments.{is_outer, may_be_operand, inner_operand, outer_at, inner_at, argument_behind_at, behind_type_at, argument_at};

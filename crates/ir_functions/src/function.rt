@@ -1,7 +1,8 @@
 //! Blocks and functions.
 
 ghost use Rattle.std.specs.Prelude.{◌≡◌, ◌<◌, ◌≤◌, [], ◌∷◌, length, IfOk};
-ghost use Rattle.ir_text.specs.Sites.{function_sites, block_sites, bare_function, bare_block};
+ghost use Rattle.ir_model.specs.Sites.{function_sites, block_sites};
+ghost use Rattle.ir_text.specs.Sites.{bare_function, bare_block};
 ghost use Rattle.ir_grammar.specs.Functions.{SpellsFunction};
 ghost use Rattle.ir_parts.specs.Reading.{left_from, ReadsAs};
 ghost use Rattle.ir_parts.specs.Places.{mentions_at};

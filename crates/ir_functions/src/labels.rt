@@ -3,7 +3,7 @@
 ghost use Rattle.std.specs.Prelude.{◌≡◌, ◌+◌, ◌^◌, ◌<◌, ◌≤◌, [], ◌∷◌, length, IsTrue, Ok};
 ghost use Rattle.std.specs.Option.{is_some};
 ghost use Rattle.ir_text.specs.Said.{said_label};
-ghost use Rattle.ir_text.specs.Sites.{DefinesBlock};
+ghost use Rattle.ir_model.specs.Sites.{DefinesBlock};
 ghost use Rattle.ir_parts.specs.Reading.{left_from, first_given};
 ghost use Rattle.ir_parts.specs.Places.{mentions_at};
 ghost use Rattle.ir_functions.specs.Functions.{block_name_at};

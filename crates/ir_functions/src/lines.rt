@@ -3,7 +3,7 @@
 ghost use Rattle.std.specs.Prelude.{◌≡◌, [], ◌++◌, ◌<◌, ◌≤◌, Some, None, length, IfOk, OnOk};
 ghost use Rattle.std.specs.Option.{option_map};
 ghost use Rattle.ir_text.specs.Said.{said_local};
-ghost use Rattle.ir_grammar.specs.Functions.{is_terminator, is_void};
+ghost use Rattle.ir_model.specs.Shapes.{is_terminator, is_void};
 ghost use Rattle.ir_parts.specs.Reading.{left_from, ReadsAs};
 ghost use Rattle.ir_parts.specs.Places.{said_at, mentions_at};
 ghost use Rattle.ir_functions.specs.Lines.{record_line_at, plain_at, operation_at, instr_of, named_line_at, gives_value, with_number, unnamed_line_at, line_at, ends_block, with_instr, instrs_at};

@@ -15,8 +15,9 @@ use Rattle.ir_model.specs.declared.item.Module.{Module}
 use Rattle.ir_text.specs.Written.{Name, Text, Number}
 use Rattle.ir_text.specs.Mentions.{Mention}
 use Rattle.ir_text.specs.Mentions as mention
-use Rattle.ir_text.specs.Sites.{Draft, Site, function_sites, without_ids, bare_function}
-use Rattle.ir_text.specs.Sites as site
+use Rattle.ir_model.specs.Sites.{Site, function_sites}
+use Rattle.ir_text.specs.Sites.{Draft, without_ids, bare_function}
+use Rattle.ir_model.specs.Sites as site
 use Rattle.ir_grammar.specs.Numbering.{named, value_names, label_names, same_name, tables_of, IsFirstPlace, StandsFor, EachMatches, IsNumbered, NumberedFunction, IsNumberedItem, IsNumberedModule}
 use Rattle.ir_grammar.proofs.OnePlace.{one_place}
 use Rattle.ir_grammar.proofs.Refilled.{same_body}

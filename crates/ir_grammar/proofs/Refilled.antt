@@ -15,7 +15,8 @@ use Rattle.ir_model.specs.declared.function.Param.{Param}
 use Rattle.ir_model.specs.declared.function.Instr.{Instr}
 use Rattle.ir_model.specs.declared.function.Block.{Block}
 use Rattle.ir_model.specs.declared.function.Function.{Function}
-use Rattle.ir_text.specs.Sites.{Site, DefinesValue, UsesValue, DefinesBlock, UsesBlock, UsesGlobal, operand_sites, typed_sites, entry_sites, op_sites, result_sites, instr_sites, block_sites, function_sites, bare_operand, bare_typed, bare_entry, bare_case, bare_op, bare_result, bare_instr, bare_block, bare_param}
+use Rattle.ir_model.specs.Sites.{Site, DefinesValue, UsesValue, DefinesBlock, UsesBlock, UsesGlobal, operand_sites, typed_sites, entry_sites, op_sites, result_sites, instr_sites, block_sites, function_sites}
+use Rattle.ir_text.specs.Sites.{bare_operand, bare_typed, bare_entry, bare_case, bare_op, bare_result, bare_instr, bare_block, bare_param}
 
 -- what takes its ids from the front of a list, and the ids that are left
 abbrev Refills : Type 0 → Type 0

@@ -10,41 +10,19 @@ use Rattle.ir_model.specs.declared.function.Param.{Param}
 use Rattle.ir_model.specs.declared.function.Instr.{Instr}
 use Rattle.ir_model.specs.declared.function.Block.{Block}
 use Rattle.ir_model.specs.declared.function.Function.{Function}
+use Rattle.ir_model.specs.Shapes.{is_terminator, MayHaveResult, GivesValue}
 use Rattle.ir_text.specs.declared.token.TokenKind.TheVariants.{Group}
 use Rattle.ir_text.specs.Names.{is_word}
 use Rattle.ir_text.specs.Tokens.{Lexeme}
 use Rattle.ir_text.specs.Language.{Language, ◌·◌, ◌or◌, nothing, one, keyword, Many}
 use Rattle.ir_text.specs.Written.{IsGlobal}
 use Rattle.ir_text.specs.Mentions.{DefinesValue, DefinesBlock, Mentioning, ◌⊙◌, silent, defines_value, defines_block, unwritten, InOrder}
-use Rattle.ir_text.specs.Types.{IsScalar, IsReturned, SpellsTypeOf}
+use Rattle.ir_model.specs.Kinds.{IsScalar, IsReturned}
+use Rattle.ir_text.specs.Types.{SpellsTypeOf}
 use Rattle.ir_text.specs.PassedOn.{SpellsWords, in_parentheses, attachments, metadata_pairs}
 use Rattle.ir_grammar.specs.Operations.{SpellsOp, Listing, SpellsTail, the_word, the_sign, the_type}
 
 -- ---- what an instruction gives
-
--- what ends a block
-abbrev pub is_terminator : Op → Bool
-is_terminator (Jump to) = true
-is_terminator (Branch cond there other) = true
-is_terminator (Switch kind value other cases) = true
-is_terminator (Ret value) = true
-is_terminator Unreachable = true
-is_terminator _ = false
-
--- the type of a call's answer
-abbrev pub is_void : IrType → Bool
-is_void Void = true
-is_void _ = false
-
--- A result may stand before the operation: it is no store and ends no block.
-abbrev pub MayHaveResult : Op → Type 0
-MayHaveResult (Store kind value to) = ⊥
-MayHaveResult op = is_terminator op ≡ false
-
--- The operation gives a value.
-abbrev pub GivesValue : Op → Type 0
-GivesValue (Call ret callee args) = is_void ret ≡ false
-GivesValue op = MayHaveResult op
 
 -- `%name =` in front of an operation that may have a result; where nothing stands there, what gives a value is defined
 -- without a name, where the instruction begins, and what gives none has no result.

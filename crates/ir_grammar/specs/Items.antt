@@ -18,7 +18,8 @@ use Rattle.ir_text.specs.Language.{Language, ◌·◌, ◌or◌, nothing, option
 use Rattle.ir_text.specs.Written.{IsGlobal, IsStringToken, IsByteString}
 use Rattle.ir_text.specs.Mentions.{Mentioning, silent}
 use Rattle.ir_text.specs.Sites.{Draft}
-use Rattle.ir_text.specs.Types.{IsScalar, IsStored, IsReturned, SpellsTypeOf}
+use Rattle.ir_model.specs.Kinds.{IsScalar, IsStored, IsReturned}
+use Rattle.ir_text.specs.Types.{SpellsTypeOf}
 use Rattle.ir_text.specs.PassedOn.{passed_text, ArePieces, IsPassedOn, is_external, SpellsWords, IsAttributeGroup, in_parentheses, in_braces, metadata_node, attachments, metadata_pairs}
 use Rattle.ir_grammar.specs.Operations.{SpellsNumber}
 use Rattle.ir_grammar.specs.Functions.{SpellsFunction, IsDroppedCallee, is_dropped_name}

@@ -11,8 +11,9 @@ use Rattle.ir_model.specs.Defined.{HasTypes}
 use Rattle.ir_text.specs.Written.{Name, Text, Number}
 use Rattle.ir_text.specs.Mentions.{Mention}
 use Rattle.ir_text.specs.Mentions as mention
-use Rattle.ir_text.specs.Sites.{Draft, Site, function_sites, without_ids}
-use Rattle.ir_text.specs.Sites as site
+use Rattle.ir_model.specs.Sites.{Site, function_sites}
+use Rattle.ir_text.specs.Sites.{Draft, without_ids}
+use Rattle.ir_model.specs.Sites as site
 
 -- ---- names
 

@@ -17,13 +17,15 @@ use Rattle.ir_model.specs.declared.op.PhiEntry.{PhiEntry}
 use Rattle.ir_model.specs.declared.op.Case.{Case}
 use Rattle.ir_model.specs.declared.op.Op.{Op}
 use Rattle.ir_model.specs.declared.op.Op.TheVariants.{Binary, Icmp, Cast, Select, Phi, Freeze, Alloca, Load, Store, Gep, Call, Jump, Branch, Switch, Ret, Unreachable}
+use Rattle.ir_model.specs.Kinds.{FlagKind, Wraps, Exact, Disjoint, NoFlag, flag_kind}
 use Rattle.ir_text.specs.declared.token.TokenKind.TheVariants.{Numeral}
 use Rattle.ir_text.specs.Tokens.{Lexeme}
 use Rattle.ir_text.specs.Listed.{word, sign}
 use Rattle.ir_text.specs.Language.{Language, ◌·◌, nothing, optional, one, keyword, punctuation, comma}
 use Rattle.ir_text.specs.Written.{IsGlobal}
 use Rattle.ir_text.specs.Mentions.{Mention, Mentioning, ◌⊙◌, silent, uses_value, uses_block, uses_global, InOrder}
-use Rattle.ir_text.specs.Types.{IsNumeral, IsInt, IsStored, IsScalar, IsReturned, SpellsTypeOf}
+use Rattle.ir_model.specs.Kinds.{IsInt, IsStored, IsScalar, IsReturned}
+use Rattle.ir_text.specs.Types.{IsNumeral, SpellsTypeOf}
 use Rattle.ir_text.specs.PassedOn.{passed_text, SpellsWords}
 
 -- ---- operands
@@ -110,25 +112,6 @@ binary_text binary.Srem = codes "srem"
 binary_text binary.And = codes "and"
 binary_text binary.Xor = codes "xor"
 binary_text binary.Or = codes "or"
-
--- which flags an operation has
-pub data FlagKind : Type 0 where
-  Wraps : FlagKind
-  Exact : FlagKind
-  Disjoint : FlagKind
-  NoFlag : FlagKind
-
-abbrev pub flag_kind : BinOp → FlagKind
-flag_kind binary.Add = Wraps
-flag_kind binary.Sub = Wraps
-flag_kind binary.Mul = Wraps
-flag_kind binary.Shl = Wraps
-flag_kind binary.Udiv = Exact
-flag_kind binary.Sdiv = Exact
-flag_kind binary.Lshr = Exact
-flag_kind binary.Ashr = Exact
-flag_kind binary.Or = Disjoint
-flag_kind _ = NoFlag
 
 -- the flags of an operation of two operands
 pub record BinaryFlags : Type 0 where

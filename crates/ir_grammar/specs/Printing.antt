@@ -31,7 +31,7 @@ use Rattle.ir_model.specs.declared.item.Item.TheVariants as item
 use Rattle.ir_model.specs.declared.item.Module.{Module}
 use Rattle.ir_text.specs.Names.{is_word}
 use Rattle.ir_grammar.specs.Operations.{binary_text, pred_text}
-use Rattle.ir_text.specs.Sites.{Site, DefinesValue, UsesValue, DefinesBlock, UsesBlock, function_sites}
+use Rattle.ir_model.specs.Sites.{Site, DefinesValue, UsesValue, DefinesBlock, UsesBlock, function_sites}
 use Rattle.ir_grammar.specs.Numbering.{first_occurrences}
 
 -- ---- names

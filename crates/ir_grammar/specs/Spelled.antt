@@ -5,7 +5,8 @@ use Rattle.ir_text.specs.declared.token.TokenKind.TheVariants.{Word, Quoted, Sig
 use Rattle.ir_text.specs.Tokens.{Lexeme, Placed, Lexed}
 use Rattle.ir_text.specs.Listed.{word, sign}
 use Rattle.ir_text.specs.Language.{Language, ◌·◌, keyword}
-use Rattle.ir_text.specs.Types.{IsReturned, SpellsTypeOf}
+use Rattle.ir_model.specs.Kinds.{IsReturned}
+use Rattle.ir_text.specs.Types.{SpellsTypeOf}
 use Rattle.ir_model.specs.declared.types.IrType.{IrType}
 use Rattle.ir_text.specs.Written.{IsGlobal}
 use Rattle.ir_text.specs.PassedOn.{left_out_words, IsPassedOn}

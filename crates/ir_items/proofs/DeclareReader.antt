@@ -11,7 +11,8 @@ use Rattle.ir_text.specs.Listed.{SeparatedByCommas}
 use Rattle.ir_text.specs.Language.{Language, ◌·◌, one, keyword, punctuation}
 use Rattle.ir_text.specs.Written.{IsGlobal}
 use Rattle.ir_text.specs.Said.{said_global}
-use Rattle.ir_text.specs.Types.{IsReturned, SpellsTypeOf}
+use Rattle.ir_model.specs.Kinds.{IsReturned}
+use Rattle.ir_text.specs.Types.{SpellsTypeOf}
 use Rattle.ir_text.specs.PassedOn.{passed_text, in_parentheses, metadata_pairs}
 use Rattle.ir_grammar.specs.Functions.{is_dropped_name}
 use Rattle.ir_grammar.specs.Items.{SpellsDeclaredParam, ListedByCommas}

@@ -6,7 +6,8 @@ use Rattle.ir_model.specs.declared.types.IrType.TheVariants.{Void, Int, Ptr, Arr
 use Rattle.ir_text.specs.Tokens.{Lexeme}
 use Rattle.ir_text.specs.Listed.{sign}
 use Rattle.ir_text.specs.Language.{Language, ◌·◌, punctuation}
-use Rattle.ir_text.specs.Types.{IsScalar, SpellsTypeOf}
+use Rattle.ir_model.specs.Kinds.{IsScalar}
+use Rattle.ir_text.specs.Types.{SpellsTypeOf}
 use Rattle.ir_text.specs.PassedOn.{is_sign_kind}
 use Rattle.ir_parts.specs.declared.ending.Run.{Run}
 use Rattle.ir_parts.specs.Reading.{begins, is_punctuation}

@@ -10,7 +10,8 @@ use Rattle.ir_text.specs.Listed.{word, global}
 use Rattle.ir_text.specs.Language.{Language, ◌·◌, one, keyword, punctuation}
 use Rattle.ir_text.specs.Written.{IsGlobal}
 use Rattle.ir_text.specs.Said.{said_global}
-use Rattle.ir_text.specs.Types.{IsStored, SpellsTypeOf}
+use Rattle.ir_model.specs.Kinds.{IsStored}
+use Rattle.ir_text.specs.Types.{SpellsTypeOf}
 use Rattle.ir_grammar.specs.Items.{SpellsInit, SpellsInitialiser, constant_word}
 use Rattle.ir_parts.specs.declared.ending.Ending.{Ending}
 use Rattle.ir_parts.specs.declared.ending.Ending.TheVariants.{Empty, Word, Placing, Placed, Quoted, Closed}

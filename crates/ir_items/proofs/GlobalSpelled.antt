@@ -8,7 +8,8 @@ use Rattle.ir_text.specs.Listed.{InSequence}
 use Rattle.ir_text.specs.Language.{◌·◌, one, comma, keyword, punctuation}
 use Rattle.ir_text.specs.Language.Many.{none, more}
 use Rattle.ir_text.specs.Written.{IsGlobal}
-use Rattle.ir_text.specs.Types.{IsStored, SpellsTypeOf}
+use Rattle.ir_model.specs.Kinds.{IsStored}
+use Rattle.ir_text.specs.Types.{SpellsTypeOf}
 use Rattle.ir_text.specs.PassedOn.{attachments}
 use Rattle.ir_grammar.specs.Items.{SpellsInitialiser, SpellsBehindCommas, SpellsGlobal, constant_word}
 use Rattle.ir_parts.specs.declared.ending.Run.{Run}

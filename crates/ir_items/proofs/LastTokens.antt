@@ -16,7 +16,8 @@ use Rattle.ir_text.specs.Tokens.{Lexeme}
 use Rattle.ir_text.specs.Listed.{word, sign, InSequence}
 use Rattle.ir_text.specs.Language.{Language, ◌·◌, ◌or◌, nothing, one, token, keyword, punctuation, comma, Many}
 use Rattle.ir_text.specs.Language.Many.{none, more}
-use Rattle.ir_text.specs.Types.{IsStored, IsReturned, SpellsElements, SpellsType, SpellsTypeOf}
+use Rattle.ir_model.specs.Kinds.{IsStored, IsReturned}
+use Rattle.ir_text.specs.Types.{SpellsElements, SpellsType, SpellsTypeOf}
 use Rattle.ir_text.specs.Written.{IsGlobal, IsStringToken}
 use Rattle.ir_text.specs.PassedOn.{is_sign_kind, IsPassedWord, passed_word, IsAttributeGroup, IsPiece, ArePieces, IsPassedOn, SpellsWords, in_parentheses, in_braces, IsMetadataWord, IsMetadataNumber, IsBang, metadata_node, attachments, metadata_pairs}
 use Rattle.ir_grammar.specs.Layout.{IsLayout}

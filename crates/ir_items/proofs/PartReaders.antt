@@ -7,7 +7,8 @@ use Rattle.ir_model.specs.declared.item.InitPart.{InitPart}
 use Rattle.ir_text.specs.Tokens.{Lexeme}
 use Rattle.ir_text.specs.Listed.{sign, SeparatedByCommas}
 use Rattle.ir_text.specs.Language.{Language, ◌·◌, punctuation}
-use Rattle.ir_text.specs.Types.{IsStored, SpellsTypeOf}
+use Rattle.ir_model.specs.Kinds.{IsStored}
+use Rattle.ir_text.specs.Types.{SpellsTypeOf}
 use Rattle.ir_parts.specs.Reading.{Read, ◌>>=◌, pure, is_punctuation, punctuation_at}
 use Rattle.ir_parts.specs.ListReading.{with_commas_at}
 use Rattle.ir_parts.proofs.Readers.{StopsAt, IsReader, Anything, of_language, mapped, followed}

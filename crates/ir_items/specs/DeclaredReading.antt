@@ -5,7 +5,8 @@ use Rattle.ir_model.specs.declared.item.DeclaredParam.{DeclaredParam}
 use Rattle.ir_model.specs.declared.item.Declare.{Declare}
 use Rattle.ir_text.specs.Language.{Language, ◌·◌, one, keyword}
 use Rattle.ir_text.specs.Said.{said_global}
-use Rattle.ir_text.specs.Types.{IsReturned, SpellsTypeOf}
+use Rattle.ir_model.specs.Kinds.{IsReturned}
+use Rattle.ir_text.specs.Types.{SpellsTypeOf}
 use Rattle.ir_text.specs.PassedOn.{IsPassedOn, in_parentheses, metadata_pairs}
 use Rattle.ir_grammar.specs.Functions.{IsDroppedCallee, is_dropped_name}
 use Rattle.ir_grammar.specs.Items.{SpellsDeclare}

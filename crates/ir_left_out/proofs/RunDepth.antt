@@ -10,7 +10,8 @@ use Rattle.ir_text.specs.declared.token.TokenKind.{TokenKind}
 use Rattle.ir_text.specs.declared.token.TokenKind.TheVariants.{Word, Numeral, Group, Quoted, Sign}
 use Rattle.ir_text.specs.Tokens.{Lexeme}
 use Rattle.ir_text.specs.Listed.{word, sign}
-use Rattle.ir_text.specs.Types.{IsReturned, SpellsTypeOf}
+use Rattle.ir_model.specs.Kinds.{IsReturned}
+use Rattle.ir_text.specs.Types.{SpellsTypeOf}
 use Rattle.ir_text.specs.PassedOn.{opening_words, is_among, IsPassedWord, Closes, is_bracket, IsBalanced, in_parentheses, IsPiece, ArePieces}
 use Rattle.ir_text.specs.PassedOn.IsBalanced.{none, plain, nested}
 use Rattle.ir_grammar.specs.Spelled.{begun_call}

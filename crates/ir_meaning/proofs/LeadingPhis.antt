@@ -9,7 +9,8 @@ use Rattle.ir_model.specs.declared.op.Op.TheVariants.{Phi}
 use Rattle.ir_model.specs.declared.function.Instr.{Instr}
 use Rattle.ir_meaning.specs.declared.phase.Phase.TheVariants as phase
 use Rattle.ir_meaning.specs.State.{Registers}
-use Rattle.ir_meaning.specs.Step.{Ends, effect, is_phi, leading_phis}
+use Rattle.ir_model.specs.Shapes.{is_phi, leading_phis}
+use Rattle.ir_meaning.specs.Step.{Ends, effect}
 
 leading_first : (x : Instr) (xs : List Instr) (instr : Instr) → ((k : ℕ) → slice_get (leading_phis xs) k ≡ Some instr → (slice_get xs k ≡ Some instr) × (is_phi instr.op ≡ true)) → (b : Bool) → is_phi x.op ≡ b → (k : ℕ) → slice_get (cond b (x ∷ leading_phis xs) []) k ≡ Some instr → (slice_get (x ∷ xs) k ≡ Some instr) × (is_phi instr.op ≡ true)
 leading_first x xs instr rest false e k at = absurd (none-some instr at)

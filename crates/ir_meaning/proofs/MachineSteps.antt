@@ -14,8 +14,10 @@ use Rattle.ir_meaning.specs.declared.phase.Phase.TheVariants as phase
 use Rattle.ir_meaning.specs.declared.choice.Choice.{Choice}
 use Rattle.ir_meaning.specs.State.{Registers, State, set, is_running, ended}
 use Rattle.ir_meaning.specs.Operands.{chosen}
-use Rattle.ir_meaning.specs.Step.{Effect, effect, block_of, leading_phis, with_phis, entered, after_effect, instr_at, carried_out, step}
-use Rattle.ir_meaning.specs.Run.{with_args, entry, start}
+use Rattle.ir_model.specs.Shapes.{block_of, leading_phis}
+use Rattle.ir_meaning.specs.Step.{Effect, effect, with_phis, entered, after_effect, instr_at, carried_out, step}
+use Rattle.ir_model.specs.Shapes.{entry}
+use Rattle.ir_meaning.specs.Run.{with_args, start}
 use Rattle.ir_meaning.specs.Stands.{Seen, Stands, register}
 
 module _ (m : Seen) (s : State) (h : Stands m s) where

@@ -11,8 +11,9 @@ use Rattle.ir_meaning.specs.declared.phase.Phase.{Phase}
 use Rattle.ir_meaning.specs.declared.phase.Phase.TheVariants as phase
 use Rattle.ir_meaning.specs.State.{State, Event}
 use Rattle.ir_meaning.specs.Operands.{chosen}
-use Rattle.ir_meaning.specs.Step.{block_of}
-use Rattle.ir_meaning.specs.Run.{entry, start, after}
+use Rattle.ir_model.specs.Shapes.{block_of}
+use Rattle.ir_model.specs.Shapes.{entry}
+use Rattle.ir_meaning.specs.Run.{start, after}
 use Rattle.ir_meaning.specs.Refinement.{RefinesValue, RefinesByte, RefinesList, RefinesMemory, RefinesEvent, RefinesAnswer, RefinesPhase, RefinesArgument, RefinesCall, common, Outdoes, Refines, JumpsBack, args_of}
 use Rattle.ir_meaning.proofs.StepShape.{Stepped, stays, ends, goes_on, enters}
 use Rattle.ir_meaning.proofs.RunInvariants.{after_keeps}

@@ -10,7 +10,8 @@ use Rattle.ir_model.specs.declared.function.Block.{Block}
 use Rattle.ir_model.specs.declared.function.Function.{Function}
 use Rattle.ir_meaning.specs.declared.value.Value.{Value}
 use Rattle.ir_meaning.specs.State.{Registers, set, State}
-use Rattle.ir_meaning.specs.Step.{Gives, effect, block_of, instr_at, leading_phis, phi_value, with_phis}
+use Rattle.ir_model.specs.Shapes.{block_of, leading_phis}
+use Rattle.ir_meaning.specs.Step.{Gives, effect, instr_at, phi_value, with_phis}
 use Rattle.ir_meaning.specs.Run.{GivesTo}
 use Rattle.ir_meaning.proofs.StepShape.{Stepped, stays, ends, goes_on, enters}
 

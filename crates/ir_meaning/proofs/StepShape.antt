@@ -9,7 +9,8 @@ use Rattle.ir_meaning.specs.declared.phase.Phase.TheVariants as phase
 use Rattle.ir_meaning.specs.declared.choice.Choice.{Choice}
 use Rattle.ir_meaning.specs.State.{Registers, set, State, is_running, ended}
 use Rattle.ir_meaning.specs.Operands.{chosen}
-use Rattle.ir_meaning.specs.Step.{Effect, Gives, Enters, Ends, effect, block_of, leading_phis, with_phis, behind_phis, entered, after_effect, instr_at, carried_out, step}
+use Rattle.ir_model.specs.Shapes.{block_of, leading_phis}
+use Rattle.ir_meaning.specs.Step.{Effect, Gives, Enters, Ends, effect, with_phis, behind_phis, entered, after_effect, instr_at, carried_out, step}
 
 -- A step with the chosen number n leads from the one state to the other.
 pub data Stepped (f : Function) (n : ℕ) (s t : State) : Type 0 where

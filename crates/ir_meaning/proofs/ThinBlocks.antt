@@ -13,7 +13,8 @@ use Rattle.ir_meaning.specs.declared.value.Value.{Value}
 use Rattle.ir_meaning.specs.State.{Registers}
 use Rattle.ir_meaning.specs.Operands.{operand_value}
 use Rattle.ir_meaning.specs.Rows.{on_numbers, added, compared}
-use Rattle.ir_meaning.specs.Step.{Effect, Gives, Enters, with_value, effect, block_of}
+use Rattle.ir_model.specs.Shapes.{block_of}
+use Rattle.ir_meaning.specs.Step.{Effect, Gives, Enters, with_value, effect}
 use Rattle.ir_meaning.specs.Run.{GivesTo}
 use Rattle.ir_meaning.proofs.ListPlaces.{all_at, found_there}
 use Rattle.ir_meaning.specs.Thin.{IsThinGiving, AreThinInstrs, IsThinFunction}

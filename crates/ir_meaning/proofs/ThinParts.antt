@@ -11,7 +11,7 @@ use Rattle.ir_model.specs.declared.op.Op.TheVariants.{Binary, Icmp, Phi, Jump, B
 use Rattle.ir_model.specs.declared.function.Instr.{Instr}
 use Rattle.ir_model.specs.declared.function.Block.{Block}
 use Rattle.ir_model.specs.declared.function.Function.{Function}
-use Rattle.ir_meaning.specs.Step.{block_of, leading_phis}
+use Rattle.ir_model.specs.Shapes.{block_of, leading_phis}
 use Rattle.ir_meaning.specs.Thin.{IsThinGiving, IsThinEnding, HasResult, AreThinInstrs, IsThinFunction}
 use Rattle.ir_meaning.specs.Narrow.{IsNarrow, IsNarrowOp, HasPlace}
 use Rattle.ir_meaning.proofs.ListPlaces.{all_at, found_there}

@@ -16,7 +16,8 @@ use Rattle.ir_meaning.specs.declared.phase.Phase.{Phase}
 use Rattle.ir_meaning.specs.declared.phase.Phase.TheVariants as phase
 use Rattle.ir_meaning.specs.State.{State, Event, Registers, is_running}
 use Rattle.ir_meaning.specs.Operands.{operand_value}
-use Rattle.ir_meaning.specs.Step.{block_of, instr_at}
+use Rattle.ir_model.specs.Shapes.{block_of}
+use Rattle.ir_meaning.specs.Step.{instr_at}
 use Rattle.ir_meaning.specs.declared.choice.Choice.{Choice}
 use Rattle.ir_meaning.specs.Run.{ArgsFit, start, after}
 

@@ -10,7 +10,8 @@ use Rattle.ir_meaning.specs.declared.phase.Phase.TheVariants as phase
 use Rattle.ir_meaning.specs.declared.choice.Choice.{Choice}
 use Rattle.ir_meaning.specs.Values.{Fits}
 use Rattle.ir_meaning.specs.State.{Registers, set, State}
-use Rattle.ir_meaning.specs.Step.{step, block_of, leading_phis, is_phi}
+use Rattle.ir_model.specs.Shapes.{block_of, leading_phis, is_phi}
+use Rattle.ir_meaning.specs.Step.{step}
 
 -- The arguments fit: there is one for each parameter, of its type.
 abbrev pub ArgsFit : Memory → List Param → List Value → Type 0
@@ -23,11 +24,6 @@ ArgsFit memory (p ∷ ps) [] = ⊥
 abbrev pub with_args : Registers → List Param → List Value → Registers
 with_args registers (p ∷ ps) (x ∷ xs) = with_args (set registers (Some p.value) x) ps xs
 with_args registers _ _ = registers
-
--- the number of a function's first block
-abbrev pub entry : List Block → ℕ
-entry [] = 0
-entry (block ∷ blocks) = block.id.0
 
 -- the state at the start: before the first instruction of the first block, with the arguments and the memory
 abbrev pub start : Function → List Value → Memory → State

@@ -56,18 +56,6 @@ effect registers n (Ret (Some typed)) =
 effect registers n Unreachable = Ends phase.Undefined
 effect registers n _ = Ends phase.Stuck
 
--- the block of this number: the first one in text order
-abbrev pub block_of : Function → ℕ → Option Block
-block_of f b = find (λ block. block.id.0 == b) f.blocks
-
-abbrev pub is_phi : Op → Bool
-is_phi (Phi kind entries) = true
-is_phi _ = false
-
--- the phis that stand before all other instructions
-abbrev pub leading_phis : List Instr → List Instr
-leading_phis instrs = take_while (λ instr. is_phi instr.op) instrs
-
 -- the operand that a phi has for control from the block: that of the first entry with it
 abbrev pub entry_from : ℕ → List PhiEntry → Option Operand
 entry_from from entries = option_map (λ entry. entry.value) (find (λ entry. entry.from.0 == from) entries)

@@ -2,8 +2,8 @@
 
 ghost use Rattle.std.specs.Prelude.{◌≡◌, ◌<◌, OnSome, slice_get};
 ghost use Rattle.std.specs.Option.{option_copied};
-ghost use Rattle.ir_meaning.specs.Step.{block_of as block_of_number};
-ghost use Rattle.ir_meaning.specs.Step.{is_phi as is_of_phi, leading_phis as phis_at_head};
+ghost use Rattle.ir_model.specs.Shapes.{block_of as block_of_number};
+ghost use Rattle.ir_model.specs.Shapes.{is_phi as is_of_phi, leading_phis as phis_at_head};
 
 use ir_model::{Block, Function, Instr, Op};
 use scev_base::BlockId;

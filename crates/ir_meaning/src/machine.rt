@@ -3,7 +3,8 @@
 ghost use Rattle.std.specs.Prelude.{◌≡◌, ℕ, ◌<◌, ◌≤◌, ◌≢◌, length, IsOk, IfOk};
 ghost use Rattle.std.specs.Option.{option_copied};
 ghost use Rattle.ir_meaning.specs.State.{State};
-ghost use Rattle.ir_meaning.specs.Step.{block_of as block_of_number, entered, instr_at, carried_out, step as stepped};
+ghost use Rattle.ir_model.specs.Shapes.{block_of as block_of_number};
+ghost use Rattle.ir_meaning.specs.Step.{entered, instr_at, carried_out, step as stepped};
 ghost use Rattle.ir_meaning.specs.Run.{ArgsFit, start as start_of, after};
 ghost use Rattle.ir_meaning.specs.Zeros.{zeros};
 ghost use Rattle.ir_meaning.specs.Thin.{IsThinFunction};

@@ -1,7 +1,8 @@
 //! Registers at the start of a run.
 
 ghost use Rattle.std.specs.Prelude.{◌≡◌, ◌<◌, All, IfOk, length, replicate};
-ghost use Rattle.ir_meaning.specs.Run.{entry as first_block, with_args};
+ghost use Rattle.ir_model.specs.Shapes.{entry as first_block};
+ghost use Rattle.ir_meaning.specs.Run.{with_args};
 ghost use Rattle.ir_meaning.specs.Stands.{register};
 
 use crate::phis::set;

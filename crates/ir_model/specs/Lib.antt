@@ -1,1 +1,7 @@
+pub mod Kinds
 pub mod Defined
+pub mod Shapes
+pub mod Sites
+pub mod Walks
+pub mod Places
+pub mod WellMade

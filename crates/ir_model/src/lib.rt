@@ -5,8 +5,10 @@
 mod function;
 mod item;
 mod op;
+mod place;
 mod rule;
 mod signature;
+mod signatures;
 mod types;
 
 pub use function::{Block, Function, Instr, Param, ValueInfo};

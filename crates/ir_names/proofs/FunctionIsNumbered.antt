@@ -5,7 +5,8 @@ use Rattle.ir_model.specs.declared.function.Function.{Function}
 use Rattle.ir_model.specs.Defined.{HasTypes}
 use Rattle.ir_text.specs.Written.{Name}
 use Rattle.ir_text.specs.Mentions.{Mention}
-use Rattle.ir_text.specs.Sites.{function_sites, bare_function}
+use Rattle.ir_model.specs.Sites.{function_sites}
+use Rattle.ir_text.specs.Sites.{bare_function}
 use Rattle.ir_grammar.specs.Numbering.{tables_of, named, value_names, label_names, same_name, first_occurrences, text_of_name, StandsFor, EachMatches}
 use Rattle.ir_lex.specs.Tokenized.{Tokenized}
 use Rattle.ir_parts.specs.Places.{mentions_at}

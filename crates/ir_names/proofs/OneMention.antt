@@ -3,8 +3,8 @@ use Rattle.std.proofs.Common.{◌≡◌, ℕ, List, [], ◌∷◌, Some, slice_g
 use Rattle.std.specs.Str.{bytes_eq}
 use Rattle.ir_text.specs.Written.{Name, Text}
 use Rattle.ir_text.specs.Said.{said_local, said_label, said_global}
-use Rattle.ir_text.specs.Sites.{Site}
-use Rattle.ir_text.specs.Sites as site
+use Rattle.ir_model.specs.Sites.{Site}
+use Rattle.ir_model.specs.Sites as site
 use Rattle.ir_grammar.specs.Numbering.{next_after, or_next, same_name, IsFirstPlace}
 use Rattle.ir_lex.specs.Tokenized.{Tokenized}
 use Rattle.ir_parts.specs.Places.{said_at}

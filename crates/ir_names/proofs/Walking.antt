@@ -3,7 +3,7 @@ use Rattle.std.proofs.Common.{◌≡◌, List, [], ◌∷◌, ◌++◌, map, rev
 use Rattle.std.specs.List.{flat_map}
 use Rattle.std.proofs.lemmas.List.{append-nil, append_assoc, reverse-append, reverse-reverse, map-append}
 use Rattle.std.proofs.lemmas.Grind.{flat_map-append}
-use Rattle.ir_text.specs.Sites.{Site}
+use Rattle.ir_model.specs.Sites.{Site}
 use Rattle.ir_lex.specs.Tokenized.{Tokenized}
 use Rattle.ir_names.specs.declared.seen.Seen.{Seen}
 use Rattle.ir_names.specs.Renumbered.{Renumbers}

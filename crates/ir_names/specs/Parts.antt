@@ -6,8 +6,9 @@ use Rattle.ir_model.specs.declared.op.Operand.{Operand}
 use Rattle.ir_model.specs.declared.op.TypedOperand.{TypedOperand}
 use Rattle.ir_model.specs.declared.op.Case.{Case}
 use Rattle.ir_model.specs.declared.function.Param.{Param}
-use Rattle.ir_text.specs.Sites.{Site, operand_sites, bare_operand, typed_sites, bare_typed, bare_case}
-use Rattle.ir_text.specs.Sites as site
+use Rattle.ir_model.specs.Sites.{Site, operand_sites, typed_sites}
+use Rattle.ir_text.specs.Sites.{bare_operand, bare_typed, bare_case}
+use Rattle.ir_model.specs.Sites as site
 
 -- a block that control goes to
 abbrev pub target_sites : BlockId → List Site

@@ -3,7 +3,7 @@ use Rattle.std.specs.Prelude.{◌≡◌, ℕ, List, [], ◌∷◌}
 use Rattle.std.specs.Str.{bytes_eq}
 use Rattle.ir_text.specs.Mentions.{Mention}
 use Rattle.ir_text.specs.Mentions as mention
-use Rattle.ir_text.specs.Sites.{Site}
+use Rattle.ir_model.specs.Sites.{Site}
 use Rattle.ir_grammar.specs.Numbering.{Tables, named, next_after, or_next, value_names, label_names, global_names, same_name, StandsFor, EachMatches}
 use Rattle.ir_lex.specs.Tokenized.{Tokenized}
 use Rattle.ir_parts.specs.Places.{mentions_at}

@@ -3,7 +3,8 @@ use Rattle.std.specs.Prelude.{◌≡◌, ℕ, List, map}
 use Rattle.std.specs.Str.{bytes_eq}
 use Rattle.ir_model.specs.declared.function.Function.{Function}
 use Rattle.ir_model.specs.declared.item.Item.{Item}
-use Rattle.ir_text.specs.Sites.{function_sites, bare_function, item_sites}
+use Rattle.ir_model.specs.Sites.{function_sites}
+use Rattle.ir_text.specs.Sites.{bare_function, item_sites}
 use Rattle.ir_grammar.specs.Numbering.{global_names, used_globals, IsNumbered, IsNumberedItem, EachMatches}
 use Rattle.ir_lex.specs.Tokenized.{Tokenized}
 use Rattle.ir_parts.specs.Places.{mentions_at, draft_of}

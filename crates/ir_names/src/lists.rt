@@ -2,7 +2,8 @@
 
 ghost use Rattle.std.specs.Prelude.{◌≡◌, [], reverse, map, IfOk, OnOk};
 ghost use Rattle.std.specs.List.{flat_map};
-ghost use Rattle.ir_text.specs.Sites.{typed_sites, bare_typed, entry_sites, bare_entry, bare_case};
+ghost use Rattle.ir_model.specs.Sites.{typed_sites, entry_sites};
+ghost use Rattle.ir_text.specs.Sites.{bare_typed, bare_entry, bare_case};
 ghost use Rattle.ir_names.specs.Parts.{case_sites};
 ghost use Rattle.ir_names.specs.Renumbered.{Renumbers};
 

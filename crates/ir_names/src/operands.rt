@@ -1,7 +1,8 @@
 //! Operands with their ids.
 
 ghost use Rattle.std.specs.Prelude.{IfOk, OnOk};
-ghost use Rattle.ir_text.specs.Sites.{operand_sites, bare_operand, typed_sites, bare_typed, entry_sites, bare_entry, bare_case};
+ghost use Rattle.ir_model.specs.Sites.{operand_sites, typed_sites, entry_sites};
+ghost use Rattle.ir_text.specs.Sites.{bare_operand, bare_typed, bare_entry, bare_case};
 ghost use Rattle.ir_names.specs.Parts.{case_sites, returned_sites, bare_returned};
 ghost use Rattle.ir_names.specs.Renumbered.{Renumbers};
 

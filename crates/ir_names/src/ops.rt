@@ -1,7 +1,8 @@
 //! Instructions with their ids.
 
 ghost use Rattle.std.specs.Prelude.{OnOk};
-ghost use Rattle.ir_text.specs.Sites.{operand_sites, bare_operand, op_sites, bare_op};
+ghost use Rattle.ir_model.specs.Sites.{operand_sites, op_sites};
+ghost use Rattle.ir_text.specs.Sites.{bare_operand, bare_op};
 ghost use Rattle.ir_names.specs.Parts.{target_sites, bare_target, pair_sites, bare_pair, select_sites, bare_select, indexed_sites, bare_indexed, branch_sites, bare_branch, switch_sites, bare_switch};
 ghost use Rattle.ir_names.specs.Renumbered.{Renumbers};
 

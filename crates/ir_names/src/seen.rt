@@ -4,7 +4,7 @@ ghost use Rattle.std.specs.Prelude.{◌≡◌, IfOk, [], ◌∷◌, unwrap_or};
 ghost use Rattle.std.specs.Option.{option_map};
 ghost use Rattle.ir_grammar.specs.Numbering.{or_next, next_after};
 ghost use Rattle.ir_text.specs.Written.{Text};
-ghost use Rattle.ir_text.specs.Sites.{DefinesValue, UsesValue, DefinesBlock, UsesBlock, UsesGlobal};
+ghost use Rattle.ir_model.specs.Sites.{DefinesValue, UsesValue, DefinesBlock, UsesBlock, UsesGlobal};
 ghost use Rattle.ir_names.specs.Keys.{name_of_key};
 ghost use Rattle.ir_names.specs.Renumbered.{Becomes};
 

@@ -2,7 +2,8 @@
 
 ghost use Rattle.std.specs.Prelude.{map, IfOk, OnOk};
 ghost use Rattle.std.specs.List.{flat_map};
-ghost use Rattle.ir_text.specs.Sites.{bare_param, result_sites, bare_result, instr_sites, bare_instr, block_sites, bare_block};
+ghost use Rattle.ir_model.specs.Sites.{result_sites, instr_sites, block_sites};
+ghost use Rattle.ir_text.specs.Sites.{bare_param, bare_result, bare_instr, bare_block};
 ghost use Rattle.ir_names.specs.Parts.{param_sites};
 ghost use Rattle.ir_names.specs.Renumbered.{Renumbers};
 

@@ -13,7 +13,8 @@ use Rattle.ir_text.specs.Bytes.{is_digit}
 use Rattle.ir_text.specs.Tokens.{Lexeme}
 use Rattle.ir_text.specs.Listed.{word, sign, InSequence}
 use Rattle.ir_text.specs.Language.{Language, ◌·◌, one, keyword, punctuation}
-use Rattle.ir_text.specs.Types.{IsNumeral, IsIntText, IsIntType, SpellsElements, SpellsType, IsInt, IsStored, IsScalar, IsReturned, SpellsTypeOf}
+use Rattle.ir_model.specs.Kinds.{IsInt, IsStored, IsScalar, IsReturned}
+use Rattle.ir_text.specs.Types.{IsNumeral, IsIntText, IsIntType, SpellsElements, SpellsType, SpellsTypeOf}
 use Rattle.ir_parts.specs.Reading.{Read, ◌>>=◌, pure, one_at, begins, is_word_kind, is_keyword, is_punctuation}
 use Rattle.ir_parts.specs.TypeReading.{below, int_width_of, int_width, dimension_of, is_numeral_kind, dimension, int_at, dimension_at, dimensions_at, closings_at, array_at, pointer_at, void_at, int_type_at, stored_type_at, scalar_type_at, returned_type_at, type_at}
 use Rattle.ir_parts.proofs.Readers.{StopsAt, IsReader, Anything, of_language, mapped, one_reads, followed, then_reads, chosen}

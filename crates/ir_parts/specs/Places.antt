@@ -8,8 +8,9 @@ use Rattle.ir_text.specs.Written.{Text}
 use Rattle.ir_text.specs.Said.{said_local, said_label, said_global}
 use Rattle.ir_text.specs.Mentions.{Mention}
 use Rattle.ir_text.specs.Mentions as mention
-use Rattle.ir_text.specs.Sites.{Draft, Site, item_sites, without_ids}
-use Rattle.ir_text.specs.Sites as site
+use Rattle.ir_model.specs.Sites.{Site}
+use Rattle.ir_text.specs.Sites.{Draft, item_sites, without_ids}
+use Rattle.ir_model.specs.Sites as site
 use Rattle.ir_lex.specs.Tokenized.{Tokenized, lexemes}
 
 -- what the token at a position says

@@ -2,7 +2,8 @@
 //! fault stands at the first token with which none goes on.
 
 ghost use Rattle.std.specs.Prelude.{◌≡◌, ◌<◌, ◌≤◌, length, IfOk};
-ghost use Rattle.ir_text.specs.Types.{SpellsType, SpellsTypeOf, IsReturned, IsScalar, IsStored, IsInt};
+ghost use Rattle.ir_model.specs.Kinds.{IsReturned, IsScalar, IsStored, IsInt};
+ghost use Rattle.ir_text.specs.Types.{SpellsType, SpellsTypeOf};
 ghost use Rattle.ir_parts.specs.Reading.{left_from, Reads};
 ghost use Rattle.ir_parts.specs.Sentences.{Tells};
 ghost use Rattle.ir_parts.specs.TypeReading.{int_type_at, stored_type_at, scalar_type_at, returned_type_at, type_at};

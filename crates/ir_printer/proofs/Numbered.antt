@@ -9,11 +9,12 @@ use Rattle.std.proofs.lemmas.Bool.{false≢true}
 use Rattle.std.proofs.lemmas.Bool.Decides.{nat_tests}
 use Rattle.ir_model.specs.declared.function.ValueInfo.{ValueInfo}
 use Rattle.ir_model.specs.declared.function.Function.{Function}
-use Rattle.ir_text.specs.Sites.{Site, DefinesValue, UsesValue, DefinesBlock, UsesBlock, UsesGlobal, function_sites}
+use Rattle.ir_model.specs.Sites.{Site, DefinesValue, UsesValue, DefinesBlock, UsesBlock, UsesGlobal, function_sites}
 use Rattle.ir_grammar.specs.Numbering.{first_occurrences}
 use Rattle.ir_grammar.specs.Printing.{Thing, Value, Block_, same_thing, is_unnamed, defined_things, used_things, unnamed_things, number_of, named_value, named_block, text_or_number, Shown, shown_in}
 use Rattle.ir_printer.specs.declared.numbers.Numbers.{Numbers}
-use Rattle.ir_printer.specs.Counting.{IsInTable, HasIds, start_of, start, is_missing, counted_value, counted_block, counted}
+use Rattle.ir_model.specs.WellMade.{IsInTable, HasIds}
+use Rattle.ir_printer.specs.Counting.{start_of, start, is_missing, counted_value, counted_block, counted}
 use Rattle.ir_printer.specs.Shown.{number_or_next}
 use Rattle.ir_printer.proofs.Seen.{tested, TellsApart, has, before, added, first_occurrences-more, before-has, before-missing, before-last, has-more}
 

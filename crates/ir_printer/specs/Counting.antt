@@ -6,32 +6,8 @@ use Rattle.ir_model.specs.declared.function.Function.{Function}
 use Rattle.ir_model.specs.declared.item.Item.{Item}
 use Rattle.ir_model.specs.declared.item.Item.TheVariants as item
 use Rattle.ir_model.specs.declared.item.Module.{Module}
-use Rattle.ir_text.specs.Sites.{Site, DefinesValue, UsesValue, DefinesBlock, UsesBlock, UsesGlobal, function_sites}
+use Rattle.ir_model.specs.Sites.{Site, DefinesValue, UsesValue, DefinesBlock, UsesBlock, UsesGlobal, function_sites}
 use Rattle.ir_printer.specs.declared.numbers.Numbers.{Numbers}
-
--- ---- ids
-
--- The id stands in the function's table.
-abbrev pub IsInTable : Function → Site → Type 0
-IsInTable f (DefinesValue v) = v < length f.values
-IsInTable f (UsesValue v) = v < length f.values
-IsInTable f (DefinesBlock b) = b < length f.labels
-IsInTable f (UsesBlock b) = b < length f.labels
-IsInTable f (UsesGlobal g) = Unit {0}
-
--- Each id of a function stands in its table.
-unfoldable pub HasIds : Function → Type 0
-HasIds f = All (IsInTable f) (function_sites f)
-
-abbrev pub ItemHasIds : Item → Type 0
-ItemHasIds (item.Define f) = HasIds f
-ItemHasIds _ = Unit {0}
-
--- So it is in each function of a module.
-unfoldable pub HaveIds : Module → Type 0
-HaveIds m = All ItemHasIds m.items
-
--- ---- counting
 
 -- what has a name needs no number
 abbrev pub start_of : Option (List ℕ) → Option ℕ

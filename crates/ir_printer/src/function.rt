@@ -3,7 +3,7 @@
 ghost use Rattle.std.specs.Prelude.{◌≡◌, ◌++◌, codes, OnOk};
 ghost use Rattle.std.specs.List.{flat_map};
 ghost use Rattle.ir_grammar.specs.Printing.{joined, block_lines, param_text, function_text, before_space, name_text, type_text, words_at};
-ghost use Rattle.ir_printer.specs.Counting.{HasIds};
+ghost use Rattle.ir_model.specs.WellMade.{HasIds};
 ghost use Rattle.ir_printer.specs.Shown.{shown};
 
 use crate::instruction::push_instr;

@@ -3,7 +3,7 @@
 ghost use Rattle.std.specs.Prelude.{◌≡◌, ◌∷◌, ◌++◌, codes, if◌then◌else◌, OnOk};
 ghost use Rattle.std.specs.List.{flat_map};
 ghost use Rattle.ir_grammar.specs.Printing.{before_space, behind_space, name_text, type_text, global_text, joined, declared_text, declare_text, item_text};
-ghost use Rattle.ir_printer.specs.Counting.{ItemHasIds};
+ghost use Rattle.ir_model.specs.WellMade.{ItemHasIds};
 
 use crate::function::push_function;
 use crate::initialiser::push_initialiser;

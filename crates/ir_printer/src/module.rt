@@ -2,7 +2,7 @@
 
 ghost use Rattle.std.specs.Prelude.{◌≡◌, IfOk};
 ghost use Rattle.ir_grammar.specs.Printing.{module_text};
-ghost use Rattle.ir_printer.specs.Counting.{HaveIds};
+ghost use Rattle.ir_model.specs.WellMade.{HaveIds};
 
 use crate::items::push_item;
 use ir_model::Module;
@@ -12,7 +12,7 @@ use std::alloc::{AllocError, Global};
 /// tables.
 ///
 /// Time linear in the module and its text.
-#[tactic(auto, unfolding(ir_grammar::specs::Printing::module_text, crate::specs::Counting::HaveIds))]
+#[tactic(auto, unfolding(ir_grammar::specs::Printing::module_text, ir_model::specs::WellMade::HaveIds))]
 pub fn print_module(alloc: Global, m: &Module) -> Result<Vec<u8>, AllocError>
     requires { HaveIds m.now }
     ensures { IfOk result (λ text. text.items ≡ module_text m.now) }

@@ -2,7 +2,7 @@
 
 ghost use Rattle.std.specs.Prelude.{◌≡◌, map, IfOk, OnOk};
 ghost use Rattle.ir_model.specs.declared.function.ValueInfo.{ValueInfo};
-ghost use Rattle.ir_text.specs.Sites.{DefinesValue, UsesValue, DefinesBlock, UsesBlock};
+ghost use Rattle.ir_model.specs.Sites.{DefinesValue, UsesValue, DefinesBlock, UsesBlock};
 ghost use Rattle.ir_printer.specs.Counting.{start_of, start, counted_value, counted_block, counted};
 
 use ir_model::{Function, Text, ValueInfo};

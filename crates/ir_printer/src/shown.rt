@@ -2,7 +2,7 @@
 
 ghost use Rattle.std.specs.Prelude.{◌≡◌, [], ◌∷◌, ◌++◌, unwrap_or, slice_get, IfOk, OnOk};
 ghost use Rattle.ir_grammar.specs.Printing.{name_text, shown_in, block_text};
-ghost use Rattle.ir_printer.specs.Counting.{HasIds};
+ghost use Rattle.ir_model.specs.WellMade.{HasIds};
 ghost use Rattle.ir_printer.specs.Shown.{number_or_next, shown};
 
 use crate::names::push_text_name;

@@ -4,7 +4,7 @@ ghost use Rattle.std.specs.Prelude.{◌≡◌, ◌++◌, map, fold, OnOk};
 ghost use Rattle.std.specs.List.{flat_map};
 ghost use Rattle.ir_model.specs.declared.function.Param.{Param};
 ghost use Rattle.ir_model.specs.declared.op.Case.{Case};
-ghost use Rattle.ir_text.specs.Sites.{DefinesValue, UsesBlock, operand_sites, typed_sites, entry_sites, op_sites, result_sites, instr_sites, block_sites, function_sites};
+ghost use Rattle.ir_model.specs.Sites.{DefinesValue, UsesBlock, operand_sites, typed_sites, entry_sites, op_sites, result_sites, instr_sites, block_sites, function_sites};
 ghost use Rattle.ir_printer.specs.Counting.{counted};
 
 use crate::numbers::Numbers;

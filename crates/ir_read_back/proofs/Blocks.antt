@@ -2,8 +2,9 @@
 use Rattle.std.proofs.Common.{◌≡◌, ℕ, zero, List, [], ◌∷◌, ◌++◌, map, flat_map, refl, sym, ◌⊎◌, inl, append_assoc, None}
 use Rattle.ir_model.specs.declared.function.Block.{Block}
 use Rattle.ir_text.specs.Mentions.{Mentioning, DefinesBlock, defines_block, unwritten, InOrder}
-use Rattle.ir_text.specs.Sites.{block_sites, bare_block}
-use Rattle.ir_text.specs.Sites as site
+use Rattle.ir_model.specs.Sites.{block_sites}
+use Rattle.ir_text.specs.Sites.{bare_block}
+use Rattle.ir_model.specs.Sites as site
 use Rattle.ir_grammar.specs.Functions.{SpellsBlock}
 use Rattle.ir_grammar.specs.Printing.{Shown, instr_text, block_lines}
 use Rattle.ir_lex.proofs.Plain.{Stops}

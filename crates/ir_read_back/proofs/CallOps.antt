@@ -6,8 +6,9 @@ use Rattle.ir_model.specs.declared.op.TypedOperand.{TypedOperand}
 use Rattle.ir_model.specs.declared.op.Op.TheVariants.{Call}
 use Rattle.ir_text.specs.Tokens.{Lexeme, AreLexemes}
 use Rattle.ir_text.specs.Mentions.{Mentioning, ◌⊙◌, silent}
-use Rattle.ir_text.specs.Sites.{typed_sites, op_sites, bare_typed}
-use Rattle.ir_text.specs.Types.{IsScalar, IsReturned}
+use Rattle.ir_model.specs.Sites.{typed_sites, op_sites}
+use Rattle.ir_text.specs.Sites.{bare_typed}
+use Rattle.ir_model.specs.Kinds.{IsScalar, IsReturned}
 use Rattle.ir_text.specs.Written.{IsGlobal}
 use Rattle.ir_text.specs.Language.{one}
 use Rattle.ir_text.specs.PassedOn.{SpellsWords}

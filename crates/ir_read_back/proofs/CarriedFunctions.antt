@@ -12,9 +12,10 @@ use Rattle.ir_model.specs.declared.function.Block.{Block}
 use Rattle.ir_model.specs.declared.function.Function.{Function}
 use Rattle.ir_text.specs.Tokens.{Lexeme}
 use Rattle.ir_text.specs.Mentions.{Mention, defines_value, defines_block, unwritten, DefinesValue, DefinesBlock}
-use Rattle.ir_text.specs.Types.{IsScalar}
+use Rattle.ir_model.specs.Kinds.{IsScalar}
 use Rattle.ir_grammar.specs.Operations.{the_type}
-use Rattle.ir_grammar.specs.Functions.{is_terminator, MayHaveResult, GivesValue, SpellsResult, SpellsInstr, SpellsLine, SpellsInstrs, SpellsBlock, SpellsParam, SpellsFunction}
+use Rattle.ir_model.specs.Shapes.{is_terminator, MayHaveResult, GivesValue}
+use Rattle.ir_grammar.specs.Functions.{SpellsResult, SpellsInstr, SpellsLine, SpellsInstrs, SpellsBlock, SpellsParam, SpellsFunction}
 use Rattle.ir_read_back.proofs.Carried.{Carries, Carried, silent_carries, unwritten_carries, new_value_carries, new_block_carries, quiet, ◌⊳◌, carried_even, fixed_word, carried_in_order, carried_listing, carried_op}
 
 -- ---- results

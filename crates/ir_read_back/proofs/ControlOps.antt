@@ -9,8 +9,9 @@ use Rattle.ir_model.specs.declared.op.TypedOperand.{TypedOperand}
 use Rattle.ir_model.specs.declared.op.Case.{Case}
 use Rattle.ir_model.specs.declared.op.Op.TheVariants.{Jump, Branch, Switch, Ret, Unreachable}
 use Rattle.ir_text.specs.Mentions.{InOrder}
-use Rattle.ir_text.specs.Sites.{Site, UsesBlock, operand_sites, op_sites, bare_case}
-use Rattle.ir_text.specs.Types.{IsScalar}
+use Rattle.ir_model.specs.Sites.{Site, UsesBlock, operand_sites, op_sites}
+use Rattle.ir_text.specs.Sites.{bare_case}
+use Rattle.ir_model.specs.Kinds.{IsScalar}
 use Rattle.ir_grammar.specs.Operations.{SpellsCase}
 use Rattle.ir_grammar.specs.Printing.{Shown, case_text, op_text}
 use Rattle.ir_lex.proofs.Plain.{Stops}

@@ -5,7 +5,8 @@ use Rattle.ir_model.specs.declared.item.Declare.{Declare}
 use Rattle.ir_text.specs.Language.{Language, ◌·◌, none, one, keyword, punctuation}
 use Rattle.ir_text.specs.Mentions.{silent}
 use Rattle.ir_text.specs.Written.{IsGlobal}
-use Rattle.ir_text.specs.Types.{IsScalar, IsReturned, SpellsTypeOf}
+use Rattle.ir_model.specs.Kinds.{IsScalar, IsReturned}
+use Rattle.ir_text.specs.Types.{SpellsTypeOf}
 use Rattle.ir_text.specs.PassedOn.{SpellsWords, metadata_pairs}
 use Rattle.ir_grammar.specs.Items.{ListedByCommas, SpellsDeclaredParam, SpellsDeclare}
 use Rattle.ir_grammar.specs.Printing.{declared_text, declare_text}

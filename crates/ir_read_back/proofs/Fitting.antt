@@ -4,8 +4,8 @@ use Rattle.ir_model.specs.declared.function.Function.{Function}
 use Rattle.ir_text.specs.Written.{Name, Text, Number}
 use Rattle.ir_text.specs.Mentions.{Mention}
 use Rattle.ir_text.specs.Mentions as mention
-use Rattle.ir_text.specs.Sites.{Site, function_sites}
-use Rattle.ir_text.specs.Sites as site
+use Rattle.ir_model.specs.Sites.{Site, function_sites}
+use Rattle.ir_model.specs.Sites as site
 use Rattle.ir_grammar.specs.Numbering.{Tables, tables_of, named, value_names, label_names, global_names, same_name, text_of_name, IsNumbered}
 use Rattle.ir_grammar.specs.Printing.{Value, Block_, named_value, named_block, number_of}
 use Rattle.ir_read_back.proofs.Printed.{name_or_number, value_name, label_name, global_name, shown_mention, function_mentions}

@@ -11,7 +11,8 @@ use Rattle.ir_text.specs.Listed.{word}
 use Rattle.ir_text.specs.Language.{Language}
 use Rattle.ir_text.specs.Mentions.{silent}
 use Rattle.ir_text.specs.PassedOn.{is_among}
-use Rattle.ir_grammar.specs.Operations.{AreFlags, IsFlag, SpellsWraps, SpellsFlag, FlagKind, Wraps, Exact, Disjoint, NoFlag, BinaryFlags, SpellsBinaryFlags, SpellsGepFlags}
+use Rattle.ir_model.specs.Kinds.{FlagKind, Wraps, Exact, Disjoint, NoFlag}
+use Rattle.ir_grammar.specs.Operations.{AreFlags, IsFlag, SpellsWraps, SpellsFlag, BinaryFlags, SpellsBinaryFlags, SpellsGepFlags}
 use Rattle.ir_grammar.specs.Printing.{flag_word}
 use Rattle.ir_read_back.proofs.Words.{nuw_is_word, nsw_is_word, exact_is_word, disjoint_is_word, inbounds_is_word}
 use Rattle.ir_read_back.proofs.Steps.{behind_space, behind_word}

@@ -6,8 +6,9 @@ use Rattle.ir_model.specs.declared.function.Function.{Function}
 use Rattle.ir_text.specs.Language.{one, none}
 use Rattle.ir_text.specs.Written.{IsGlobal}
 use Rattle.ir_text.specs.Mentions.{Mentioning, ◌⊙◌, silent, InOrder}
-use Rattle.ir_text.specs.Sites.{block_sites, function_sites, bare_param, bare_block, bare_function}
-use Rattle.ir_text.specs.Types.{IsReturned}
+use Rattle.ir_model.specs.Sites.{block_sites, function_sites}
+use Rattle.ir_text.specs.Sites.{bare_param, bare_block, bare_function}
+use Rattle.ir_model.specs.Kinds.{IsReturned}
 use Rattle.ir_text.specs.PassedOn.{SpellsWords, metadata_pairs}
 use Rattle.ir_grammar.specs.Operations.{Listing, the_word, the_sign, the_type}
 use Rattle.ir_grammar.specs.Functions.{SpellsParam, SpellsBlock, SpellsFunction}

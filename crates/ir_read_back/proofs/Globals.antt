@@ -7,7 +7,8 @@ use Rattle.ir_text.specs.Tokens.{Lexeme}
 use Rattle.ir_text.specs.Language.{Language, ◌·◌, one, keyword, punctuation, none}
 use Rattle.ir_text.specs.Written.{IsGlobal}
 use Rattle.ir_text.specs.Mentions.{Mention, Mentioning, ◌⊙◌, silent}
-use Rattle.ir_text.specs.Types.{IsStored, SpellsTypeOf}
+use Rattle.ir_model.specs.Kinds.{IsStored}
+use Rattle.ir_text.specs.Types.{SpellsTypeOf}
 use Rattle.ir_text.specs.PassedOn.{ArePieces, is_external, passed_text, spaced, attachments}
 use Rattle.ir_grammar.specs.Items.{SpellsInitialiser, constant_word, SpellsBehindCommas, SpellsGlobal}
 use Rattle.ir_grammar.specs.Printing.{before_space, initialiser_text, global_text}

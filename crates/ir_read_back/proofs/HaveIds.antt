@@ -11,10 +11,11 @@ use Rattle.ir_model.specs.declared.item.Module.{Module}
 use Rattle.ir_text.specs.Written.{Name}
 use Rattle.ir_text.specs.Mentions.{Mention}
 use Rattle.ir_text.specs.Mentions as mention
-use Rattle.ir_text.specs.Sites.{Site, Draft, function_sites}
-use Rattle.ir_text.specs.Sites as site
+use Rattle.ir_model.specs.Sites.{Site, function_sites}
+use Rattle.ir_text.specs.Sites.{Draft}
+use Rattle.ir_model.specs.Sites as site
 use Rattle.ir_grammar.specs.Numbering.{Tables, tables_of, named, text_of_name, StandsFor, EachMatches, IsNumbered, IsNumberedItem, IsNumberedModule}
-use Rattle.ir_printer.specs.Counting.{IsInTable, HasIds, ItemHasIds, HaveIds}
+use Rattle.ir_model.specs.WellMade.{IsInTable, HasIds, ItemHasIds, HaveIds}
 
 module _ (f : Function) (tables : Tables) (values : length tables.values ≡ length f.values)
     (labels : length tables.labels ≡ length f.labels) where

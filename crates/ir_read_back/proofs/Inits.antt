@@ -17,7 +17,8 @@ use Rattle.ir_text.specs.Listed.{sign}
 use Rattle.ir_text.specs.Language.{one}
 use Rattle.ir_text.specs.Written.{IsQuoted, IsByteString}
 use Rattle.ir_text.specs.Mentions.{Mentioning, ◌⊙◌, silent}
-use Rattle.ir_text.specs.Types.{IsStored, SpellsTypeOf}
+use Rattle.ir_model.specs.Kinds.{IsStored}
+use Rattle.ir_text.specs.Types.{SpellsTypeOf}
 use Rattle.ir_grammar.specs.Operations.{the_type, the_comma}
 use Rattle.ir_grammar.specs.Items.{SpellsLiteral, SpellsInit, literal, zero, bytes, SpellsParts, last, more}
 use Rattle.ir_grammar.specs.Items as items

@@ -9,10 +9,12 @@ use Rattle.ir_text.specs.Tokens.{Lexeme, AreLexemes}
 use Rattle.ir_text.specs.Listed.{sign}
 use Rattle.ir_text.specs.Language.{none}
 use Rattle.ir_text.specs.Mentions.{Mention, Mentioning, ◌⊙◌, silent, defines_value}
-use Rattle.ir_text.specs.Sites.{DefinesValue, result_sites, op_sites, instr_sites, bare_op, bare_result, bare_instr}
+use Rattle.ir_model.specs.Sites.{DefinesValue, result_sites, op_sites, instr_sites}
+use Rattle.ir_text.specs.Sites.{bare_op, bare_result, bare_instr}
 use Rattle.ir_text.specs.PassedOn.{attachments}
 use Rattle.ir_grammar.specs.Operations.{the_sign}
-use Rattle.ir_grammar.specs.Functions.{is_terminator, MayHaveResult, GivesValue, SpellsResult, SpellsLine, SpellsInstrs}
+use Rattle.ir_model.specs.Shapes.{is_terminator, MayHaveResult, GivesValue}
+use Rattle.ir_grammar.specs.Functions.{SpellsResult, SpellsLine, SpellsInstrs}
 use Rattle.ir_grammar.specs.Printing.{Shown, result_text, instr_text}
 use Rattle.ir_read_back.specs.Normal.{normal_op, normal_instr}
 use Rattle.ir_read_back.proofs.Steps.{behind_line_feed}

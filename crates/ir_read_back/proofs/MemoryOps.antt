@@ -7,8 +7,9 @@ use Rattle.ir_model.specs.declared.op.Operand.{Operand}
 use Rattle.ir_model.specs.declared.op.TypedOperand.{TypedOperand}
 use Rattle.ir_model.specs.declared.op.Op.TheVariants.{Alloca, Load, Store, Gep}
 use Rattle.ir_text.specs.Mentions.{Mention, Mentioning, ◌⊙◌, silent, InOrder}
-use Rattle.ir_text.specs.Sites.{operand_sites, typed_sites, op_sites, bare_operand, bare_typed}
-use Rattle.ir_text.specs.Types.{IsInt, IsStored}
+use Rattle.ir_model.specs.Sites.{operand_sites, typed_sites, op_sites}
+use Rattle.ir_text.specs.Sites.{bare_operand, bare_typed}
+use Rattle.ir_model.specs.Kinds.{IsInt, IsStored}
 use Rattle.ir_grammar.specs.Operations.{SpellsTyped, SpellsPointer, SpellsAlign, the_comma}
 use Rattle.ir_grammar.specs.Printing.{Shown, type_text, operand_text, words_at, align_text, typed_text, pointer_text, op_text}
 use Rattle.ir_lex.proofs.Plain.{Stops}

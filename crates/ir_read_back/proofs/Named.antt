@@ -3,8 +3,8 @@ use Rattle.std.proofs.Common.{map, ℕ, ◌^◌, ◌<◌, List, [], unwrap_or, s
 use Rattle.ir_text.specs.Written.{Name, Text, Number, Says, SaysGlobal}
 use Rattle.ir_text.specs.Mentions.{Mention}
 use Rattle.ir_text.specs.Mentions as mention
-use Rattle.ir_text.specs.Sites.{Site}
-use Rattle.ir_text.specs.Sites as site
+use Rattle.ir_model.specs.Sites.{Site}
+use Rattle.ir_model.specs.Sites as site
 use Rattle.ir_grammar.specs.Printing.{Shown, name_text}
 use Rattle.ir_read_back.proofs.Real.{Each}
 

@@ -7,7 +7,7 @@ use Rattle.std.proofs.lemmas.Option.{same_Some, none-some}
 use Rattle.std.proofs.lemmas.Slice.Eq.{bytes_eq-Decides}
 use Rattle.ir_model.specs.declared.function.Function.{Function}
 use Rattle.ir_text.specs.Written.{Name, Text, Number}
-use Rattle.ir_text.specs.Sites.{Site, DefinesValue, UsesValue, DefinesBlock, UsesBlock, UsesGlobal, function_sites}
+use Rattle.ir_model.specs.Sites.{Site, DefinesValue, UsesValue, DefinesBlock, UsesBlock, UsesGlobal, function_sites}
 use Rattle.ir_grammar.specs.Numbering.{first_occurrences, same_name, text_of_name}
 use Rattle.ir_grammar.specs.Printing.{Thing, Value, Block_, same_thing, is_unnamed, defined_things, used_things, unnamed_things, number_of}
 use Rattle.ir_grammar.proofs.OnePlace.{one_place}

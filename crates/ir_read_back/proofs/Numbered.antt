@@ -7,8 +7,8 @@ use Rattle.ir_model.specs.declared.function.ValueInfo.{ValueInfo}
 use Rattle.ir_text.specs.Written.{Name}
 use Rattle.ir_text.specs.Mentions.{Mention}
 use Rattle.ir_text.specs.Mentions as mention
-use Rattle.ir_text.specs.Sites.{Site, function_sites}
-use Rattle.ir_text.specs.Sites as site
+use Rattle.ir_model.specs.Sites.{Site, function_sites}
+use Rattle.ir_model.specs.Sites as site
 use Rattle.ir_grammar.specs.Numbering.{Tables, tables_of, named, value_names, label_names, global_names, first_occurrences, same_name, text_of_name, StandsFor, EachMatches, IsFirstPlace, IsNumbered}
 use Rattle.ir_grammar.specs.Printing.{Thing, Value, Block_, named_value, named_block}
 use Rattle.ir_read_back.specs.Normal.{normal_function}

@@ -7,8 +7,9 @@ use Rattle.ir_model.specs.declared.op.Operand.{Operand}
 use Rattle.ir_model.specs.declared.op.Operand.TheVariants as operand
 use Rattle.ir_model.specs.declared.op.TypedOperand.{TypedOperand}
 use Rattle.ir_text.specs.Mentions.{Mention, Mentioning}
-use Rattle.ir_text.specs.Sites.{Site, UsesBlock, operand_sites, typed_sites, bare_operand, bare_typed}
-use Rattle.ir_text.specs.Types.{IsScalar}
+use Rattle.ir_model.specs.Sites.{Site, UsesBlock, operand_sites, typed_sites}
+use Rattle.ir_text.specs.Sites.{bare_operand, bare_typed}
+use Rattle.ir_model.specs.Kinds.{IsScalar}
 use Rattle.ir_grammar.specs.Operations.{SpellsOperand, SpellsTyped, SpellsPointer, SpellsBlockName, SpellsTarget, SpellsTwo}
 use Rattle.ir_grammar.specs.Printing.{Shown, operand_text, typed_text, pointer_text, block_text, target_text, two_text}
 use Rattle.ir_lex.proofs.Plain.{Stops}

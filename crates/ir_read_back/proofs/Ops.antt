@@ -2,7 +2,7 @@
 use Rattle.std.proofs.Common.{ℕ, List, Some, None}
 use Rattle.ir_model.specs.declared.op.Op.{Op}
 use Rattle.ir_model.specs.declared.op.Op.TheVariants.{Binary, Icmp, Cast, Select, Phi, Freeze, Alloca, Load, Store, Gep, Call, Jump, Branch, Switch, Ret, Unreachable}
-use Rattle.ir_text.specs.Sites.{op_sites}
+use Rattle.ir_model.specs.Sites.{op_sites}
 use Rattle.ir_grammar.specs.Printing.{Shown}
 use Rattle.ir_read_back.proofs.Named.{Names, AreShown}
 use Rattle.ir_read_back.proofs.PlainOps.{OpRewrites, binary_rewrites, icmp_rewrites, cast_rewrites, select_rewrites, phi_rewrites, freeze_rewrites}

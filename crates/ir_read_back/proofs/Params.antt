@@ -2,9 +2,10 @@
 use Rattle.std.proofs.Common.{◌≡◌, ℕ, zero, List, [], ◌∷◌, ◌++◌, map, flat_map, codes, refl, sym, ap, ◌⊎◌, inl, None}
 use Rattle.ir_model.specs.declared.function.Param.{Param}
 use Rattle.ir_text.specs.Mentions.{Mentioning, DefinesValue, defines_value, unwritten}
-use Rattle.ir_text.specs.Sites.{Site, bare_param}
-use Rattle.ir_text.specs.Sites as site
-use Rattle.ir_text.specs.Types.{IsScalar}
+use Rattle.ir_model.specs.Sites.{Site}
+use Rattle.ir_text.specs.Sites.{bare_param}
+use Rattle.ir_model.specs.Sites as site
+use Rattle.ir_model.specs.Kinds.{IsScalar}
 use Rattle.ir_grammar.specs.Operations.{Listing}
 use Rattle.ir_grammar.specs.Functions.{SpellsParam}
 use Rattle.ir_grammar.specs.Printing.{Shown, joined, behind_space, param_text}

@@ -15,9 +15,11 @@ use Rattle.ir_model.specs.declared.op.Op.TheVariants.{Binary, Icmp, Cast, Select
 use Rattle.ir_text.specs.Tokens.{Lexeme}
 use Rattle.ir_text.specs.Language.{Language}
 use Rattle.ir_text.specs.Mentions.{◌⊙◌, silent}
-use Rattle.ir_text.specs.Sites.{Site, UsesBlock, operand_sites, typed_sites, entry_sites, op_sites, bare_operand, bare_entry, bare_op}
-use Rattle.ir_text.specs.Types.{IsScalar}
-use Rattle.ir_grammar.specs.Operations.{SpellsOp, SpellsTyped, SpellsEntry, WithCommas, the_word, the_type, binary_text, pred_text, flag_kind}
+use Rattle.ir_model.specs.Sites.{Site, UsesBlock, operand_sites, typed_sites, entry_sites, op_sites}
+use Rattle.ir_text.specs.Sites.{bare_operand, bare_entry, bare_op}
+use Rattle.ir_model.specs.Kinds.{IsScalar}
+use Rattle.ir_model.specs.Kinds.{flag_kind}
+use Rattle.ir_grammar.specs.Operations.{SpellsOp, SpellsTyped, SpellsEntry, WithCommas, the_word, the_type, binary_text, pred_text}
 use Rattle.ir_grammar.specs.Printing.{Shown, joined, type_text, operand_text, entry_text, op_text, two_text, flag_word}
 use Rattle.ir_lex.proofs.Plain.{Stops}
 use Rattle.ir_read_back.specs.Normal.{normal_operand, normal_entry, normal_op}

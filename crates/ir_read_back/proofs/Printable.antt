@@ -5,7 +5,8 @@ use Rattle.ir_model.specs.declared.item.Item.TheVariants as item
 use Rattle.ir_model.specs.declared.item.Module.{Module}
 use Rattle.ir_text.specs.Tokens.{Lexeme, Placed}
 use Rattle.ir_text.specs.Mentions.{Mention}
-use Rattle.ir_text.specs.Sites.{Draft, function_sites, without_ids, bare_function}
+use Rattle.ir_model.specs.Sites.{function_sites}
+use Rattle.ir_text.specs.Sites.{Draft, without_ids, bare_function}
 use Rattle.ir_grammar.specs.Items.{SpellsDraft, SpellsItems}
 use Rattle.ir_grammar.specs.Numbering.{EachMatches, NumberedFunction, IsNumberedItem}
 use Rattle.ir_grammar.specs.Printing.{shown_in}

@@ -5,7 +5,8 @@ use Rattle.ir_model.specs.declared.item.Item.{Item}
 use Rattle.ir_model.specs.declared.item.Item.TheVariants as item
 use Rattle.ir_text.specs.Written.{Name, Text, Number}
 use Rattle.ir_text.specs.Mentions.{Mention}
-use Rattle.ir_text.specs.Sites.{Site, Draft, function_sites, without_ids}
+use Rattle.ir_model.specs.Sites.{Site, function_sites}
+use Rattle.ir_text.specs.Sites.{Draft, without_ids}
 use Rattle.ir_grammar.specs.Printing.{Value, Block_, named_value, named_block, number_of}
 use Rattle.ir_read_back.specs.Normal.{normal_item}
 use Rattle.ir_read_back.proofs.Named.{Names, mention_at}

@@ -2,8 +2,8 @@
 use Rattle.std.proofs.Common.{ℕ, ◌^◌, List, Option, Some, None, arith}
 use Rattle.std.specs.Fmt.{decimal}
 use Rattle.ir_model.specs.declared.function.Function.{Function}
-use Rattle.ir_text.specs.Sites.{Site, function_sites}
-use Rattle.ir_text.specs.Sites as site
+use Rattle.ir_model.specs.Sites.{Site, function_sites}
+use Rattle.ir_model.specs.Sites as site
 use Rattle.ir_grammar.specs.Printing.{Value, Block_, named_value, named_block, number_of, text_or_number, shown_in}
 use Rattle.ir_printer.proofs.QuotedNames.{name_says, name_says_global}
 use Rattle.ir_read_back.proofs.Numerals.{decimal_digits, is_number_of}

@@ -5,8 +5,8 @@ use Rattle.ir_model.specs.declared.function.Function.{Function}
 use Rattle.ir_text.specs.Written.{Name, Number}
 use Rattle.ir_text.specs.Mentions.{Mention}
 use Rattle.ir_text.specs.Mentions as mention
-use Rattle.ir_text.specs.Sites.{Site, function_sites}
-use Rattle.ir_text.specs.Sites as site
+use Rattle.ir_model.specs.Sites.{Site, function_sites}
+use Rattle.ir_model.specs.Sites as site
 use Rattle.ir_grammar.specs.Numbering.{Tables, named, value_names, label_names, global_names, StandsFor, EachMatches, IsFirstPlace}
 use Rattle.ir_grammar.specs.Printing.{Thing, Value, Block_}
 use Rattle.ir_read_back.proofs.Printed.{value_name, label_name, global_name, shown_mention}

@@ -16,7 +16,7 @@ use Rattle.ir_model.specs.declared.function.Block.{Block}
 use Rattle.ir_model.specs.declared.function.Function.{Function}
 use Rattle.ir_model.specs.declared.function.ValueInfo.{ValueInfo}
 use Rattle.ir_model.specs.Defined.{given_type, instr_type, block_type, type_of, HasTypes}
-use Rattle.ir_text.specs.Sites.{Site, UsesBlock, operand_sites, typed_sites, entry_sites, op_sites, instr_sites, block_sites, function_sites}
+use Rattle.ir_model.specs.Sites.{Site, UsesBlock, operand_sites, typed_sites, entry_sites, op_sites, instr_sites, block_sites, function_sites}
 use Rattle.ir_read_back.specs.Normal.{normal_operand, normal_typed, normal_entry, normal_case, normal_op, normal_instr, normal_block, normal_function}
 
 -- ---- types

@@ -9,7 +9,8 @@ use Rattle.ir_model.specs.declared.item.Item.TheVariants as item
 use Rattle.ir_text.specs.Tokens.{Lexeme}
 use Rattle.ir_text.specs.Said.{said_global}
 use Rattle.ir_text.specs.Mentions.{Mention}
-use Rattle.ir_text.specs.Sites.{Draft, Site, item_sites, without_ids}
+use Rattle.ir_model.specs.Sites.{Site}
+use Rattle.ir_text.specs.Sites.{Draft, item_sites, without_ids}
 use Rattle.ir_lex.specs.Tokenized.{Tokenized, lexemes}
 use Rattle.ir_parts.specs.declared.fault.ItemFault.{ItemFault}
 use Rattle.ir_parts.specs.declared.fault.ItemFault.TheVariants.{CannotGoOn, OutOfMemory}

@@ -36,25 +36,6 @@ SpellsType Ptr = keyword (codes "ptr")
 SpellsType (Array [] width) = λ ts. ⊥
 SpellsType (Array (d ∷ dims) width) = SpellsElements (d ∷ dims) width
 
--- What a place takes: an integer; an integer or an array; an integer or a pointer; the same or `void`.
-abbrev pub IsInt : IrType → Type 0
-IsInt (Int width) = Unit {0}
-IsInt _ = ⊥
-
-abbrev pub IsStored : IrType → Type 0
-IsStored (Int width) = Unit {0}
-IsStored (Array dims width) = Unit {0}
-IsStored _ = ⊥
-
-abbrev pub IsScalar : IrType → Type 0
-IsScalar (Int width) = Unit {0}
-IsScalar Ptr = Unit {0}
-IsScalar _ = ⊥
-
-abbrev pub IsReturned : IrType → Type 0
-IsReturned Void = Unit {0}
-IsReturned kind = IsScalar kind
-
 -- a type of one of these kinds
 abbrev pub SpellsTypeOf : (IrType → Type 0) → IrType → Language
 SpellsTypeOf Is kind ts = Is kind × SpellsType kind ts

@@ -14,11 +14,13 @@ use Rattle.ir_meaning.specs.declared.phase.Phase.TheVariants as phase
 use Rattle.ir_meaning.specs.State.{Registers, State}
 use Rattle.ir_meaning.specs.Operands.{operand_value}
 use Rattle.ir_meaning.specs.Rows.{on_numbers, added, compared}
-use Rattle.ir_meaning.specs.Step.{Enters, Ends, branched, effect, block_of, instr_at}
+use Rattle.ir_model.specs.Shapes.{block_of}
+use Rattle.ir_meaning.specs.Step.{Enters, Ends, branched, effect, instr_at}
 use Rattle.ir_meaning.proofs.ListPlaces.{contains_in_all}
 use Rattle.ir_meaning.proofs.ThinBlocks.{value_there, two_values_stay}
 use Rattle.ir_meaning.proofs.RegisterChanges.{from_and_then}
-use Rattle.loop_regions.specs.Walks.{targets, Edge}
+use Rattle.ir_model.specs.Shapes.{targets}
+use Rattle.ir_model.specs.Walks.{Edge}
 
 one_of_two : (there else_there b : ℕ) (test : Bool) → Enters (cond test else_there there) ≡ Enters b → Contains (there ∷ else_there ∷ []) b
 one_of_two there else_there b true e = (1, omega arith, cc)

@@ -2,7 +2,7 @@
 use Rattle.std.proofs.Common.{◌≡◌, ℕ, zero, suc, List, [], ◌∷◌, ◌++◌, get_or, All, Contains, refl, sym, subst, arith}
 use Rattle.std.proofs.lemmas.List.Elements.{All-nil, All-contains, Contains-get_or, Contains-append_right}
 use Rattle.ir_model.specs.declared.function.Function.{Function}
-use Rattle.loop_regions.specs.Walks.{Edge, Walk, Reachable}
+use Rattle.ir_model.specs.Walks.{Edge, Walk, Reachable}
 use Rattle.loop_regions.specs.Loops.{Loop, IsRegion, IsLoop}
 use Rattle.loop_regions.specs.OneBlock.{IsOneBlockLoop, one_block}
 use Rattle.loop_regions.proofs.OneBlockLemmas.{walk_join}

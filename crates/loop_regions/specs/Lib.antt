@@ -1,4 +1,3 @@
-pub mod Walks
 pub mod Loops
 pub mod Turns
 pub mod OneBlock

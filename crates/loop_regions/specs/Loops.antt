@@ -1,7 +1,7 @@
 -- Natural loops as sets of blocks.
 use Rattle.std.specs.Prelude.{◌≡◌, ℕ, List, Contains, All}
 use Rattle.ir_model.specs.declared.function.Function.{Function}
-use Rattle.loop_regions.specs.Walks.{Edge, Walk, Reachable}
+use Rattle.ir_model.specs.Walks.{Edge, Walk, Reachable}
 
 -- a header, and the set of the blocks
 pub record Loop : Type 0 where

@@ -2,7 +2,7 @@
 use Rattle.std.specs.Prelude.{◌≡◌, ◌↔◌, ◌==◌, ℕ, ◌<◌, List, [], ◌∷◌, Some, All, AllPairs, Contains, position}
 use Rattle.scev_base.specs.declared.ids.BlockId.{BlockId}
 use Rattle.ir_model.specs.declared.function.Function.{Function}
-use Rattle.loop_regions.specs.Walks.{Edge, Walk, Reachable}
+use Rattle.ir_model.specs.Walks.{Edge, Walk, Reachable}
 use Rattle.loop_regions.specs.Loops.{Loop}
 
 -- A reachable block with an edge to itself, and with no other walk back to it: each one passes that block alone.

@@ -3,7 +3,7 @@ use Rattle.std.specs.Prelude.{◌≡◌, ℕ, List, Bool, Some, Contains, AllPai
 use Rattle.scev_base.specs.declared.ids.BlockId.{BlockId}
 use Rattle.ir_model.specs.declared.function.Block.{Block}
 use Rattle.ir_model.specs.declared.function.Function.{Function}
-use Rattle.ir_meaning.specs.Step.{block_of}
+use Rattle.ir_model.specs.Shapes.{block_of}
 use Rattle.loop_regions.specs.OneBlock.{StandsBefore}
 use Rattle.loop_regions.specs.Graph.{IsMarked}
 

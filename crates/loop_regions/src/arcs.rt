@@ -2,7 +2,8 @@
 
 ghost use Rattle.std.specs.Prelude.{◌≡◌, ◌++◌, [], map, replicate, IfOk, OnOk};
 ghost use Rattle.ir_meaning.specs.Thin.{IsThinFunction};
-ghost use Rattle.loop_regions.specs.Walks.{targets, successors};
+ghost use Rattle.ir_model.specs.Shapes.{targets};
+ghost use Rattle.ir_model.specs.Walks.{successors};
 ghost use Rattle.loop_regions.specs.Graph.{IsGraphOf};
 
 use ir_model::{Case, Function, Instr, Op};

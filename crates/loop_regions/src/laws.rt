@@ -3,7 +3,7 @@
 ghost use Rattle.std.specs.Prelude.{◌≡◌, ◌≢◌, ℕ, suc, List, ◌∷◌, All, Contains};
 ghost use Rattle.scev_base.specs.declared.ids.BlockId.{BlockId};
 ghost use Rattle.ir_model.specs.declared.function.Function.{Function};
-ghost use Rattle.loop_regions.specs.Walks.{Edge, Reachable};
+ghost use Rattle.ir_model.specs.Walks.{Edge, Reachable};
 ghost use Rattle.loop_regions.specs.Loops.{Loop, IsLoop};
 ghost use Rattle.loop_regions.specs.OneBlock.{IsOneBlockLoop, AreLoops, one_block};
 ghost use Rattle.loop_regions.specs.Turns.{turn};

@@ -10,7 +10,7 @@ use Rattle.std.proofs.lemmas.Option.{slice_get_within, slice_get_cases, get_or_f
 use Rattle.scev_base.specs.declared.ids.BlockId.{BlockId}
 use Rattle.ir_model.specs.declared.function.Block.{Block}
 use Rattle.ir_model.specs.declared.function.Function.{Function}
-use Rattle.ir_meaning.specs.Step.{block_of}
+use Rattle.ir_model.specs.Shapes.{block_of}
 use Rattle.loop_regions.specs.OneBlock.{AreLoops}
 
 -- where the first block of this number stands, or how many blocks there are

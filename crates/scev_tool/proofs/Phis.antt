@@ -8,7 +8,7 @@ use Rattle.scev_base.specs.declared.ids.ValueId.{ValueId}
 use Rattle.ir_model.specs.declared.op.Op.{Op}
 use Rattle.ir_model.specs.declared.op.Op.TheVariants.{Phi}
 use Rattle.ir_model.specs.declared.function.Instr.{Instr}
-use Rattle.ir_meaning.specs.Step.{is_phi, block_of}
+use Rattle.ir_model.specs.Shapes.{is_phi, block_of}
 use Rattle.ir_meaning.specs.Thin.{AreThinInstrs, HasResult, IsThinEnding}
 use Rattle.ir_model.specs.declared.function.Block.{Block}
 use Rattle.ir_model.specs.declared.function.Function.{Function}

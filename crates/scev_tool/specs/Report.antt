@@ -11,7 +11,7 @@ use Rattle.ir_model.specs.declared.item.Item.TheVariants.{Define}
 use Rattle.ir_model.specs.declared.item.Module.{Module}
 use Rattle.ir_grammar.specs.Spelled.{Spells}
 use Rattle.ir_grammar.specs.Printing.{Shown, shown_in, name_text, block_text}
-use Rattle.ir_meaning.specs.Step.{block_of}
+use Rattle.ir_model.specs.Shapes.{block_of}
 use Rattle.ir_meaning.specs.Thin.{IsThinFunction}
 use Rattle.loop_regions.specs.OneBlock.{AreLoops, one_block}
 use Rattle.scev_tree.specs.Tree.{affine}

@@ -3,7 +3,7 @@
 ghost use Rattle.std.specs.Prelude.{◌≡◌, ◌≤◌, ◌<◌, ◌^◌, List, ℕ, length, IfOk, All};
 ghost use Rattle.scev_outside.specs.Bytes.{Gave};
 ghost use Rattle.ir_grammar.specs.Spelled.{Spells};
-ghost use Rattle.ir_printer.specs.Counting.{HaveIds};
+ghost use Rattle.ir_model.specs.WellMade.{HaveIds};
 ghost use Rattle.scev_tool.specs.Answer.{IsAnswer, input_limit};
 ghost use Rattle.scev_tool.specs.Mode.{AskFor, IsTextOf};
 ghost use Rattle.scev_tool.specs.Status.{LeavesOutput};

@@ -3,7 +3,7 @@
 ghost use Rattle.std.specs.Prelude.{◌≡◌, ◌++◌, ◌<◌, ◌^◌, ◌↔◌, ℕ, List, length, cond, slice_get, Some, None, IfSome, IsTrue, OnOk, Contains};
 ghost use Rattle.std.specs.Fmt.{signed_decimal};
 ghost use Rattle.scev_base.specs.Residue.{reading};
-ghost use Rattle.ir_meaning.specs.Step.{block_of, is_phi as is_of_phi};
+ghost use Rattle.ir_model.specs.Shapes.{block_of, is_phi as is_of_phi};
 ghost use Rattle.ir_meaning.specs.Thin.{IsThinFunction, AreThinInstrs};
 ghost use Rattle.loop_regions.specs.OneBlock.{AreLoops};
 ghost use Rattle.classify.specs.Definitions.{AreDefinitions};

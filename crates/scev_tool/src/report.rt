@@ -2,7 +2,7 @@
 
 ghost use Rattle.std.specs.Prelude.{◌≡◌, ◌++◌, ℕ, List, IfOk, OnOk};
 ghost use Rattle.ir_grammar.specs.Printing.{shown_in};
-ghost use Rattle.ir_printer.specs.Counting.{HasIds, ItemHasIds, HaveIds};
+ghost use Rattle.ir_model.specs.WellMade.{HasIds, ItemHasIds, HaveIds};
 ghost use Rattle.ir_printer.specs.Shown.{shown};
 ghost use Rattle.ir_model.specs.declared.item.Item.{Item};
 ghost use Rattle.scev_tool.specs.Report.{AreLoopsLines, AreItemLines, InPieces, IsReport, function_line};
@@ -76,7 +76,7 @@ fn push_item(
 }
 
 /// The report of a module. The ids of its functions stand in their tables.
-#[tactic(auto, unfolding(ir_printer::specs::Counting::HaveIds))]
+#[tactic(auto, unfolding(ir_model::specs::WellMade::HaveIds))]
 pub fn report_module(alloc: Global, m: &Module) -> Result<Vec<u8>, AllocError>
     requires ids { HaveIds m.now }
     ensures { IfOk result (λ text. IsReport m.now text.items) }

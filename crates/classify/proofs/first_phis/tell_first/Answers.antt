@@ -1,6 +1,6 @@
 use Rattle.std.proofs.Common.{◌≡◌, ◌↔◌, List, IsTrue, subst}
 use Rattle.ir_model.specs.declared.function.Instr.{Instr}
-use Rattle.ir_meaning.specs.Step.{leading_phis}
+use Rattle.ir_model.specs.Shapes.{leading_phis}
 use Rattle.classify.specs.Recurrence.{phis}
 use Rattle.classify.proofs.FirstPhis.{tell_more}
 use Rattle.classify.proofs.first_phis.tell_first.Goals as goal

@@ -1,6 +1,6 @@
 use Rattle.std.proofs.Common.{◌≡◌, map, take}
 use Rattle.std.specs.Prelude.{flat_map}
-use Rattle.classify.specs.Names.{register_of}
+use Rattle.ir_model.specs.Shapes.{register_of}
 use Rattle.classify.specs.Tally.{all_counted}
 use Rattle.classify.proofs.names.count_entries.Given as goal
 

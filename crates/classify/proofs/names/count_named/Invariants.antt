@@ -1,7 +1,7 @@
 use Rattle.std.proofs.Common.{◌≡◌, ◌++◌, take}
 use Rattle.std.specs.Prelude.{flat_map}
-use Rattle.loop_regions.specs.Walks.{targets}
-use Rattle.classify.specs.Names.{sources}
+use Rattle.ir_model.specs.Shapes.{targets}
+use Rattle.ir_model.specs.Shapes.{sources}
 use Rattle.classify.specs.Tally.{all_counted}
 use Rattle.classify.proofs.names.count_named.Given as goal
 

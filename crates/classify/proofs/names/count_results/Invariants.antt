@@ -1,6 +1,6 @@
 use Rattle.std.proofs.Common.{◌≡◌, take}
 use Rattle.std.specs.Prelude.{flat_map}
-use Rattle.classify.specs.Names.{result_of}
+use Rattle.ir_model.specs.Shapes.{result_of}
 use Rattle.classify.specs.Tally.{all_counted}
 use Rattle.classify.proofs.names.count_results.Given as goal
 

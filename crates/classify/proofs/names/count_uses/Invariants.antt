@@ -1,6 +1,6 @@
 use Rattle.std.proofs.Common.{◌≡◌, take}
 use Rattle.std.specs.Prelude.{flat_map}
-use Rattle.classify.specs.Names.{operands, register_of}
+use Rattle.ir_model.specs.Shapes.{operands, register_of}
 use Rattle.classify.specs.Tally.{all_counted}
 use Rattle.classify.proofs.names.count_uses.Given as goal
 

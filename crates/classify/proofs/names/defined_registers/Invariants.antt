@@ -1,7 +1,7 @@
 use Rattle.std.proofs.Common.{◌≡◌, ◌++◌, map, take, replicate, length}
 use Rattle.std.specs.Prelude.{flat_map}
 use Rattle.classify.specs.declared.tally.Often.TheVariants.{Never}
-use Rattle.classify.specs.Names.{result_of, instructions}
+use Rattle.ir_model.specs.Shapes.{result_of, instructions}
 use Rattle.classify.specs.Tally.{all_counted}
 use Rattle.classify.proofs.names.defined_registers.Given as goal
 

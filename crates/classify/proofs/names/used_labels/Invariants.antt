@@ -1,8 +1,8 @@
 use Rattle.std.proofs.Common.{◌≡◌, ◌++◌, take, replicate, length}
 use Rattle.std.specs.Prelude.{flat_map}
-use Rattle.loop_regions.specs.Walks.{targets}
+use Rattle.ir_model.specs.Shapes.{targets}
 use Rattle.classify.specs.declared.tally.Often.TheVariants.{Never}
-use Rattle.classify.specs.Names.{sources, instructions}
+use Rattle.ir_model.specs.Shapes.{sources, instructions}
 use Rattle.classify.specs.Tally.{all_counted}
 use Rattle.classify.proofs.names.used_labels.Given as goal
 

@@ -1,5 +1,5 @@
 use Rattle.std.proofs.Common.{length}
-use Rattle.classify.specs.Names.{defined_blocks, used_blocks}
+use Rattle.ir_model.specs.Shapes.{defined_blocks, used_blocks}
 use Rattle.classify.proofs.TallyLemmas.{AreOnce_counted, same_bound}
 use Rattle.classify.proofs.ThinNames.{labels_below}
 use Rattle.classify.proofs.once.are_labels_once.Goals as goal

@@ -1,5 +1,5 @@
 use Rattle.std.proofs.Common.{length}
-use Rattle.classify.specs.Names.{defined_values, used_values}
+use Rattle.ir_model.specs.Shapes.{defined_values, used_values}
 use Rattle.classify.proofs.TallyLemmas.{AreOnce_counted, same_bound}
 use Rattle.classify.proofs.ThinNames.{values_below}
 use Rattle.classify.proofs.once.are_registers_once.Goals as goal

@@ -1,6 +1,7 @@
 use Rattle.std.proofs.Common.{arith}
 use Rattle.std.proofs.lemmas.Result.{err_from_is_err_and}
-use Rattle.ir_text.specs.Sites.{bare_entry, entry_sites}
+use Rattle.ir_model.specs.Sites.{entry_sites}
+use Rattle.ir_text.specs.Sites.{bare_entry}
 use Rattle.ir_parts.proofs.ListLoops.{parts_more_seen}
 use Rattle.ir_body.specs.Lists.{entry_at, entries_at}
 use Rattle.ir_body.proofs.GatheredLoops.{seen, gathered_no_more, gathered_end, gathered_no_end}

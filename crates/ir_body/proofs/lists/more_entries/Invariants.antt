@@ -1,5 +1,6 @@
 use Rattle.std.proofs.Common.{◌≤◌, ◌-◌, length, map}
-use Rattle.ir_text.specs.Sites.{bare_entry, entry_sites}
+use Rattle.ir_model.specs.Sites.{entry_sites}
+use Rattle.ir_text.specs.Sites.{bare_entry}
 use Rattle.ir_parts.proofs.ListLoops.{PartsRead}
 use Rattle.ir_body.specs.Lists.{entry_at}
 use Rattle.ir_body.proofs.GatheredLoops.{seen}

@@ -1,6 +1,7 @@
 use Rattle.std.proofs.Common.{arith}
 use Rattle.std.proofs.lemmas.Result.{err_from_is_err_and}
-use Rattle.ir_text.specs.Sites.{bare_typed, typed_sites}
+use Rattle.ir_model.specs.Sites.{typed_sites}
+use Rattle.ir_text.specs.Sites.{bare_typed}
 use Rattle.ir_parts.proofs.ListLoops.{parts_more_seen}
 use Rattle.ir_body.specs.Operands.{typed_at}
 use Rattle.ir_body.specs.Lists.{indices_at}

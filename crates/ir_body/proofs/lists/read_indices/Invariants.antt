@@ -1,5 +1,6 @@
 use Rattle.std.proofs.Common.{◌≤◌, ◌-◌, length, map}
-use Rattle.ir_text.specs.Sites.{bare_typed, typed_sites}
+use Rattle.ir_model.specs.Sites.{typed_sites}
+use Rattle.ir_text.specs.Sites.{bare_typed}
 use Rattle.ir_parts.proofs.ListLoops.{PartsRead}
 use Rattle.ir_body.specs.Operands.{typed_at}
 use Rattle.ir_body.proofs.GatheredLoops.{seen}

@@ -2,7 +2,8 @@ use Rattle.std.proofs.Common.{List, [], ◌∷◌, ◌++◌, refl, arith}
 use Rattle.std.proofs.lemmas.Result.{err_from_is_err_and}
 use Rattle.ir_model.specs.declared.function.Block.{Block}
 use Rattle.ir_text.specs.Mentions.{Mention}
-use Rattle.ir_text.specs.Sites.{block_sites, bare_block}
+use Rattle.ir_model.specs.Sites.{block_sites}
+use Rattle.ir_text.specs.Sites.{bare_block}
 use Rattle.ir_lex.specs.Tokenized.{Tokenized}
 use Rattle.ir_parts.specs.Reading.{left_from}
 use Rattle.ir_parts.specs.ListReading.{all_up_to_at}

@@ -1,7 +1,8 @@
 use Rattle.ir_model.specs.declared.function.Function.{Function}
 use Rattle.ir_text.specs.Mentions.{Mention}
 use Rattle.std.proofs.Common.{List}
-use Rattle.ir_text.specs.Sites.{function_sites, bare_function}
+use Rattle.ir_model.specs.Sites.{function_sites}
+use Rattle.ir_text.specs.Sites.{bare_function}
 use Rattle.ir_parts.specs.Places.{mentions_at}
 use Rattle.ir_body.proofs.Sentences.{tells_as}
 use Rattle.ir_functions.proofs.WholeFunctions.{functions_are_read}

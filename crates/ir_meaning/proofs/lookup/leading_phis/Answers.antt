@@ -4,7 +4,7 @@ use Rattle.std.proofs.lemmas.Iterator.Consumers.{count_from_yields_List}
 use Rattle.std.proofs.lemmas.Iterator.Search.{YieldsList-from_take_while}
 use Rattle.std.proofs.lemmas.List.Folds.{length-prefix_len}
 use Rattle.ir_model.specs.declared.function.Instr.{Instr}
-use Rattle.ir_meaning.specs.Step.{is_phi as is_of_phi}
+use Rattle.ir_model.specs.Shapes.{is_phi as is_of_phi}
 use Rattle.ir_meaning.proofs.lookup.leading_phis.Goals as goal
 
 pub returns : goal.returns

@@ -1,7 +1,7 @@
 use Rattle.std.proofs.Common.{refl, ap, ◌∙◌, map}
 use Rattle.ir_model.specs.declared.function.Param.{Param}
-use Rattle.ir_text.specs.Sites.{Site}
-use Rattle.ir_text.specs.Sites as site
+use Rattle.ir_model.specs.Sites.{Site}
+use Rattle.ir_model.specs.Sites as site
 use Rattle.ir_grammar.specs.Numbering.{text_of_name}
 use Rattle.ir_names.proofs.KeyNames.{texts_of}
 use Rattle.ir_names.proofs.Passing.{both, as_map}

@@ -1,4 +1,5 @@
-use Rattle.ir_text.specs.Sites.{entry_sites, bare_entry}
+use Rattle.ir_model.specs.Sites.{entry_sites}
+use Rattle.ir_text.specs.Sites.{bare_entry}
 use Rattle.ir_names.proofs.Walking.{walked_none, walked_more, walked_all}
 use Rattle.ir_names.proofs.lists.entries.Goals as goal
 

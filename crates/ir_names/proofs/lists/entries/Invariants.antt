@@ -1,5 +1,6 @@
 use Rattle.std.proofs.Common.{length}
-use Rattle.ir_text.specs.Sites.{entry_sites, bare_entry}
+use Rattle.ir_model.specs.Sites.{entry_sites}
+use Rattle.ir_text.specs.Sites.{bare_entry}
 use Rattle.ir_names.proofs.Walking.{Walked}
 use Rattle.ir_names.proofs.lists.entries.Given as goal
 

@@ -1,4 +1,5 @@
-use Rattle.ir_text.specs.Sites.{typed_sites, bare_typed}
+use Rattle.ir_model.specs.Sites.{typed_sites}
+use Rattle.ir_text.specs.Sites.{bare_typed}
 use Rattle.ir_names.proofs.Walking.{walked_none, walked_more, walked_all}
 use Rattle.ir_names.proofs.lists.operands.Goals as goal
 

@@ -1,5 +1,6 @@
 use Rattle.std.proofs.Common.{length}
-use Rattle.ir_text.specs.Sites.{typed_sites, bare_typed}
+use Rattle.ir_model.specs.Sites.{typed_sites}
+use Rattle.ir_text.specs.Sites.{bare_typed}
 use Rattle.ir_names.proofs.Walking.{Walked}
 use Rattle.ir_names.proofs.lists.operands.Given as goal
 

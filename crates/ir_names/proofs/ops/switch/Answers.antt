@@ -1,7 +1,7 @@
 use Rattle.std.proofs.Common.{refl}
 use Rattle.ir_model.specs.declared.op.Case.{Case}
-use Rattle.ir_text.specs.Sites.{Site}
-use Rattle.ir_text.specs.Sites as site
+use Rattle.ir_model.specs.Sites.{Site}
+use Rattle.ir_model.specs.Sites as site
 use Rattle.ir_names.proofs.Passing.{both, as_map}
 use Rattle.ir_names.proofs.ops.switch.Goals as goal
 

@@ -1,4 +1,5 @@
-use Rattle.ir_text.specs.Sites.{block_sites, bare_block}
+use Rattle.ir_model.specs.Sites.{block_sites}
+use Rattle.ir_text.specs.Sites.{bare_block}
 use Rattle.ir_names.proofs.Walking.{walked_none, walked_more, walked_all}
 use Rattle.ir_names.proofs.walk.blocks.Goals as goal
 

@@ -1,5 +1,6 @@
 use Rattle.std.proofs.Common.{length}
-use Rattle.ir_text.specs.Sites.{block_sites, bare_block}
+use Rattle.ir_model.specs.Sites.{block_sites}
+use Rattle.ir_text.specs.Sites.{bare_block}
 use Rattle.ir_names.proofs.Walking.{Walked}
 use Rattle.ir_names.proofs.walk.blocks.Given as goal
 

@@ -1,4 +1,5 @@
-use Rattle.ir_text.specs.Sites.{instr_sites, bare_instr}
+use Rattle.ir_model.specs.Sites.{instr_sites}
+use Rattle.ir_text.specs.Sites.{bare_instr}
 use Rattle.ir_names.proofs.Walking.{walked_none, walked_more, walked_all}
 use Rattle.ir_names.proofs.walk.instrs.Goals as goal
 

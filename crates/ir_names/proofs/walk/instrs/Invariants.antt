@@ -1,5 +1,6 @@
 use Rattle.std.proofs.Common.{length}
-use Rattle.ir_text.specs.Sites.{instr_sites, bare_instr}
+use Rattle.ir_model.specs.Sites.{instr_sites}
+use Rattle.ir_text.specs.Sites.{bare_instr}
 use Rattle.ir_names.proofs.Walking.{Walked}
 use Rattle.ir_names.proofs.walk.instrs.Given as goal
 

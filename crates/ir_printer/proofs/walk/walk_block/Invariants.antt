@@ -1,6 +1,6 @@
 use Rattle.std.proofs.Common.{◌≡◌, take, fold}
 use Rattle.std.specs.List.{flat_map}
-use Rattle.ir_text.specs.Sites.{instr_sites}
+use Rattle.ir_model.specs.Sites.{instr_sites}
 use Rattle.ir_printer.specs.Counting.{counted}
 use Rattle.ir_printer.proofs.walk.walk_block.Given as goal
 

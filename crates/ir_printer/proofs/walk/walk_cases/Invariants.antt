@@ -1,6 +1,6 @@
 use Rattle.std.proofs.Common.{◌≡◌, take, fold, map}
 use Rattle.ir_model.specs.declared.op.Case.{Case}
-use Rattle.ir_text.specs.Sites.{UsesBlock}
+use Rattle.ir_model.specs.Sites.{UsesBlock}
 use Rattle.ir_printer.specs.Counting.{counted}
 use Rattle.ir_printer.proofs.walk.walk_cases.Given as goal
 

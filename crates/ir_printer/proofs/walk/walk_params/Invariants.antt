@@ -1,6 +1,6 @@
 use Rattle.std.proofs.Common.{◌≡◌, take, fold, map}
 use Rattle.ir_model.specs.declared.function.Param.{Param}
-use Rattle.ir_text.specs.Sites.{DefinesValue}
+use Rattle.ir_model.specs.Sites.{DefinesValue}
 use Rattle.ir_printer.specs.Counting.{counted}
 use Rattle.ir_printer.proofs.walk.walk_params.Given as goal
 

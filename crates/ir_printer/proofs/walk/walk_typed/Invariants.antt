@@ -1,6 +1,6 @@
 use Rattle.std.proofs.Common.{◌≡◌, take, fold}
 use Rattle.std.specs.List.{flat_map}
-use Rattle.ir_text.specs.Sites.{typed_sites}
+use Rattle.ir_model.specs.Sites.{typed_sites}
 use Rattle.ir_printer.specs.Counting.{counted}
 use Rattle.ir_printer.proofs.walk.walk_typed.Given as goal
 

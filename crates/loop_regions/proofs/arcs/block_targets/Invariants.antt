@@ -1,5 +1,5 @@
 use Rattle.std.proofs.Common.{◌≡◌, take}
-use Rattle.loop_regions.specs.Walks.{successors}
+use Rattle.ir_model.specs.Walks.{successors}
 use Rattle.loop_regions.proofs.arcs.block_targets.Given as goal
 
 abbrev pub invariant-loop-instr : goal.invariant-loop-instr

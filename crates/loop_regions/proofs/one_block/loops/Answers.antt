@@ -2,7 +2,7 @@ use Rattle.std.proofs.Common.{◌≡◌, ◌↔◌, ℕ, List, length, get_or, s
 use Rattle.std.proofs.lemmas.Result.{IfOk-weaker}
 use Rattle.scev_base.specs.declared.ids.BlockId.{BlockId}
 use Rattle.ir_model.specs.declared.function.Block.{Block}
-use Rattle.ir_meaning.specs.Run.{entry}
+use Rattle.ir_model.specs.Shapes.{entry}
 use Rattle.loop_regions.specs.OneBlock.{AreLoops}
 use Rattle.loop_regions.specs.Graph.{Arc, Path, IsClosed, IsMarked, IsLone}
 use Rattle.loop_regions.proofs.OneBlockLemmas.{AreLoops_listed, first_is_entry, listed_within}

@@ -2,7 +2,8 @@ use Rattle.std.proofs.Common.{◌≡◌, ℕ, length, List, Option, sym, ap, ◌
 use Rattle.std.proofs.lemmas.List.{with_items_is}
 use Rattle.ir_meaning.specs.declared.value.Value.{Value}
 use Rattle.ir_meaning.specs.State.{set}
-use Rattle.ir_meaning.specs.Step.{block_of, effect}
+use Rattle.ir_model.specs.Shapes.{block_of}
+use Rattle.ir_meaning.specs.Step.{effect}
 use Rattle.ir_meaning.specs.Stands.{Seen, Stands, register}
 use Rattle.ir_meaning.specs.Narrow.{HasPlace}
 use Rattle.ir_meaning.proofs.ThinParts.{instr_held}

@@ -2,7 +2,7 @@ use Rattle.std.proofs.Common.{◌≡◌, ℕ, All, length, get_or, List, Option,
 use Rattle.std.proofs.lemmas.List.{with_items_is}
 use Rattle.ir_model.specs.declared.function.Instr.{Instr}
 use Rattle.ir_meaning.specs.declared.value.Value.{Value}
-use Rattle.ir_meaning.specs.Step.{leading_phis}
+use Rattle.ir_model.specs.Shapes.{leading_phis}
 use Rattle.ir_meaning.specs.Stands.{Seen, Stands}
 use Rattle.ir_meaning.specs.Narrow.{IsNarrowOp, HasPlace}
 use Rattle.ir_meaning.proofs.ThinParts.{phis_held}

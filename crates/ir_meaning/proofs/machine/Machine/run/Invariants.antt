@@ -1,7 +1,7 @@
 use Rattle.std.proofs.Common.{◌≡◌, length}
 use Rattle.std.specs.Option.{option_copied}
 use Rattle.ir_meaning.specs.declared.phase.Phase.TheVariants as phase
-use Rattle.ir_meaning.specs.Step.{block_of}
+use Rattle.ir_model.specs.Shapes.{block_of}
 use Rattle.ir_meaning.proofs.RunSteps.{HasRun}
 use Rattle.ir_meaning.proofs.machine.Machine.run.Given as goal
 

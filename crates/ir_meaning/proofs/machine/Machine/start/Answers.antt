@@ -1,7 +1,8 @@
 use Rattle.std.proofs.Common.{List, Option, None, replicate, ap, ◌∙◌}
 use Rattle.std.proofs.lemmas.List.{with_items_is}
 use Rattle.ir_meaning.specs.declared.value.Value.{Value}
-use Rattle.ir_meaning.specs.Run.{entry, with_args}
+use Rattle.ir_model.specs.Shapes.{entry}
+use Rattle.ir_meaning.specs.Run.{with_args}
 use Rattle.ir_meaning.specs.Stands.{register}
 use Rattle.ir_meaning.proofs.MachineSteps.{stands_started}
 use Rattle.ir_meaning.proofs.machine.Machine.start.Goals as goal
