@@ -1,5 +1,5 @@
 -- Rules on types: operands and literals have the types of their places, numerals fit their widths, and widths fit.
-use Rattle.std.specs.Prelude.{ℕ, suc, ◌-◌, ◌^◌, ◌==◌, Bool, true, false, not, ◌&&◌, ◌||◌, nat_lt, nat_le, List, [], ◌∷◌, ◌++◌, length, map, flat_map, Some, None, ℤ, pos, neg_ℤ, int_lt, int_le, if◌then◌else◌}
+use Rattle.std.specs.Prelude.{ℕ, suc, ◌-◌, ◌^◌, ◌==◌, Bool, true, false, not, ◌&&◌, ◌||◌, nat_lt, nat_le, List, [], ◌∷◌, ◌++◌, length, map, flat_map, Some, None, ℤ, pos, neg_ℤ, int_lt, int_le, if◌then◌else◌, slice_get, option_map, unwrap_or}
 use Rattle.std.specs.List.{list_all}
 use Rattle.std.specs.Str.{bytes_eq}
 use Rattle.ir_model.specs.declared.types.IrType.{IrType}
@@ -14,10 +14,10 @@ use Rattle.ir_model.specs.declared.op.Case.{Case}
 use Rattle.ir_model.specs.declared.op.Op.{Op}
 use Rattle.ir_model.specs.declared.op.Op.TheVariants.{Binary, Icmp, Cast, Select, Phi, Freeze, Alloca, Load, Store, Gep, Call, Branch, Switch, Ret}
 use Rattle.ir_model.specs.declared.function.Param.{Param}
+use Rattle.ir_model.specs.declared.function.ValueInfo.{ValueInfo}
 use Rattle.ir_model.specs.declared.function.Function.{Function}
 use Rattle.ir_model.specs.declared.rule.Place.{Place}
 use Rattle.ir_model.specs.declared.rule.Place.TheVariants.{Value, BlockAt}
-use Rattle.ir_model.specs.Defined.{type_of}
 use Rattle.ir_model.specs.Shapes.{entry}
 use Rattle.ir_rules.specs.Spots.{Spot, places_where}
 use Rattle.ir_rules.specs.Names.{unless}
@@ -54,6 +54,10 @@ dimensions _ = 0
 abbrev pub at_type : IrType → Operand → TypedOperand
 at_type kind value = record { kind = kind; value = value }
 
+-- a numeral as an operand
+abbrev pub number : ℤ → Operand
+number n = operand.Num n
+
 abbrev pub wanted : Op → List TypedOperand
 wanted (Binary op nuw nsw exact disjoint kind left right) = at_type kind left ∷ at_type kind right ∷ []
 wanted (Icmp pred kind left right) = at_type kind left ∷ at_type kind right ∷ []
@@ -67,15 +71,19 @@ wanted (Gep inbounds kind base indices) = at_type Ptr base ∷ indices
 wanted (Call ret callee args) = args
 wanted (Branch cond there other) = at_type (Int 1) cond ∷ []
 wanted (Switch kind value other cases) =
-    at_type kind value ∷ map (λ (one : Case). at_type one.kind (operand.Num one.number)) cases
+    at_type kind value ∷ map (λ (one : Case). at_type one.kind (number one.number)) cases
 wanted (Ret (Some value)) = value ∷ []
 wanted _ = []
 
 -- ---- types that aren't those of their places
 
--- An operand may stand at a type: a register has the type of its definition.
+-- the type of a value, as the function's table has it: in a well-made function that of its first definition
+abbrev pub kind_of : Function → ℕ → IrType
+kind_of f v = unwrap_or (option_map (λ (info : ValueInfo). info.kind) (slice_get f.values v)) Void
+
+-- An operand may stand at a type.
 abbrev pub fits : Function → IrType → Operand → Bool
-fits f kind (operand.Reg v) = same_type kind (type_of f.params f.blocks v.0)
+fits f kind (operand.Reg v) = same_type kind (kind_of f v.0)
 fits f kind (operand.Num n) = is_int kind
 fits f kind operand.Null = is_pointer kind
 fits f kind (operand.Global g) = is_pointer kind
@@ -113,8 +121,11 @@ abbrev pub literal_fits : IrType → Operand → Bool
 literal_fits (Int w) (operand.Num n) = is_in_range w n
 literal_fits _ _ = true
 
+abbrev pub all_literals_fit : List TypedOperand → Bool
+all_literals_fit values = list_all (λ (typed : TypedOperand). literal_fits typed.kind typed.value) values
+
 abbrev pub literals_fit : Op → Bool
-literals_fit op = list_all (λ (typed : TypedOperand). literal_fits typed.kind typed.value) (wanted op)
+literals_fit op = all_literals_fit (wanted op)
 
 abbrev pub literals_out_of_range : Function → List Place
 literals_out_of_range f = places_where (λ (spot : Spot). not (literals_fit spot.instr.op)) f
@@ -154,8 +165,11 @@ widths_fit (Switch kind value other cases) = is_wide kind && list_all (λ (one :
 widths_fit (Ret (Some value)) = is_wide value.kind
 widths_fit _ = true
 
+abbrev pub bad_params : List Param → List Place
+bad_params params = flat_map (λ (p : Param). unless (is_wide p.kind) (Value p.value)) params
+
 -- the return type at the first block, then parameters, then instructions
 abbrev pub bad_widths : Function → List Place
 bad_widths f = unless (is_wide f.ret) (BlockAt (record { 0 = entry f.blocks }))
-    ++ (flat_map (λ (p : Param). unless (is_wide p.kind) (Value p.value)) f.params
+    ++ (bad_params f.params
     ++ places_where (λ (spot : Spot). not (widths_fit spot.instr.op)) f)
