@@ -13,6 +13,12 @@ pub length-bits_of : (words : List ℕ) (count : ℕ) → length (bits_of words 
 unfolding bits_of
 length-bits_of words count = length-map-range_with_len (bit_of words) 0 count
 
+-- rows of one length hold equally many bits
+pub same_count : (words more : List ℕ) (count others : ℕ) (row other : List Bool)
+    → bits_of words count ≡ row → bits_of more others ≡ other → length row ≡ length other → count ≡ others
+same_count words more count others row other e f len =
+    sym (length-bits_of words count) ∙ ap length e ∙ len ∙ sym (ap length f) ∙ length-bits_of more others
+
 pub get_or-bits_of : (words : List ℕ) (count k : ℕ) → k < count → get_or (bits_of words count) k false ≡ bit_of words k
 unfolding bits_of
 get_or-bits_of words count k h = get_or-map-range_with_len (bit_of words) 0 count k k false h (omega arith)

@@ -5,7 +5,8 @@ ghost use Rattle.std.specs.Prelude.{◌≡◌, ◌<◌, ℕ, true, false, ◌||�
 use std::alloc::{AllocError, Global};
 use std::marker::Model;
 
-/// A row of so many bits, 64 to a word. Contracts see the list of its bits.
+/// A row of so many bits, 64 to a word, from the lowest bit of the first word on. Contracts see the list of its
+/// bits.
 #[derive(Drop)]
 pub struct BitRow {
     words: Vec<u64>,
@@ -25,7 +26,8 @@ impl Model for BitRow {
 }
 
 impl BitRow {
-    /// A row of `count` bits, each of them false. It is an error exactly if memory runs out.
+    /// A row of `count` bits, each of them false, in time linear in their number. The error comes only where
+    /// there is no memory for the words.
     pub fn new(alloc: Global, count: usize) -> Result<BitRow, AllocError>
         ensures { IfOk result (λ row. row ≡ replicate count false) }
     {
@@ -33,25 +35,21 @@ impl BitRow {
         Ok(BitRow { words, count })
     }
 
-    /// How many bits there are.
+    /// How many bits there are. Constant time.
     pub fn len(&self) -> usize
         ensures { result ≡ length self.now }
     {
         self.count
     }
 
-    /// The bit at a place, and false past the end.
+    /// The bit at a place, and false past the end. Constant time; no memory.
     pub fn get(&self, at: usize) -> bool
         ensures { result ≡ slice_index_or self.now at false }
     {
-        if at < self.count {
-            (self.words[at / 64] >> (at % 64)) & 1 == 1
-        } else {
-            false
-        }
+        at < self.count && (self.words[at / 64] >> (at % 64)) & 1 == 1
     }
 
-    /// Makes the bit at a place true.
+    /// Makes the bit at a place of the row true. Constant time; no memory.
     pub fn set(&mut self, at: usize)
         requires { at < length self.old }
         ensures { self.new ≡ slice_set self.old at true }
@@ -60,7 +58,7 @@ impl BitRow {
         self.words[at / 64] = word | 1 << (at % 64);
     }
 
-    /// Makes the bit at a place false.
+    /// Makes the bit at a place of the row false. Constant time; no memory.
     pub fn clear(&mut self, at: usize)
         requires { at < length self.old }
         ensures { self.new ≡ slice_set self.old at false }
@@ -69,7 +67,8 @@ impl BitRow {
         self.words[at / 64] = word & !(1 << (at % 64));
     }
 
-    /// Makes each bit true that is true in the other row, 64 at a time.
+    /// Makes each bit true that is true in the other row, which has as many bits. It takes 64 bits at a time; no
+    /// memory.
     pub fn join(&mut self, other: &BitRow)
         requires { length self.old ≡ length other.now }
         ensures count { length self.new ≡ length self.old }
@@ -81,7 +80,8 @@ impl BitRow {
         }
     }
 
-    /// Makes each bit false that is false in the other row, 64 at a time.
+    /// Makes each bit false that is false in the other row, which has as many bits. It takes 64 bits at a time; no
+    /// memory.
     pub fn meet(&mut self, other: &BitRow)
         requires { length self.old ≡ length other.now }
         ensures count { length self.new ≡ length self.old }
@@ -93,7 +93,8 @@ impl BitRow {
         }
     }
 
-    /// A row of the same bits. It is an error exactly if memory runs out.
+    /// A row of the same bits, in time linear in their number. The error comes only where there is no memory for
+    /// the words.
     pub fn copy(&self, alloc: Global) -> Result<BitRow, AllocError>
         ensures { IfOk result (λ copy. copy ≡ self.now) }
     {

@@ -1,4 +1,5 @@
-use Rattle.std.proofs.Common.{◌/◌, sym, arith}
+use Rattle.std.proofs.Common.{◌/◌, arith}
+use Rattle.std.proofs.lemmas.Bool.Decides.{nat_tests}
 use Rattle.std.proofs.lemmas.List.{get_or_read}
 use Rattle.bit_rows.proofs.BitLemmas.{bit_test, past-bits_of}
 use Rattle.bit_rows.proofs.row.BitRow.get.Goals as goal
@@ -12,5 +13,5 @@ returns-then-at-self c =
 
 pub returns-else-at-self : goal.returns-else-at-self
 returns-else-at-self c =
-    rw (← c.self.view_is)
-    (sym (past-bits_of c.self.inside.words.items c.self.inside.count c.args.at c.if-at-self.false))
+    let past = past-bits_of c.self.inside.words.items c.self.inside.count c.args.at c.if-at-self.false in
+    rw (← c.self.view_is, past) (grind (arith, nat_tests))
