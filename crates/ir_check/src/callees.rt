@@ -7,6 +7,7 @@ ghost use Rattle.ir_rules.specs.Values as values;
 use indexmap::IndexMap;
 use ir_model::{Signature, Signatures};
 use std::alloc::{AllocError, Global};
+use std::marker::Model;
 
 /// The functions that a module declares or defines, by their names. Where two have one name, the first one counts.
 #[derive(Drop)]
@@ -15,9 +16,19 @@ pub struct Callees<'a> {
     places: IndexMap<&'a [u8], usize>,
 }
 
+impl<'a> Model for Callees<'a> {
+    ghost use Rattle.ir_model.specs.declared.signature.Signatures.{Signatures};
+
+    ghost Value = { Signatures };
+
+    ghost view = { λ c. c.signatures.now };
+}
+
 impl<'a> Callees<'a> {
     /// The functions of a module. Time linear in their number.
-    pub fn of(alloc: Global, signatures: &'a Signatures) -> Result<Callees<'a>, AllocError> {
+    pub fn of(alloc: Global, signatures: &'a Signatures) -> Result<Callees<'a>, AllocError>
+        ensures { IfOk result (λ callees. callees ≡ signatures.now) }
+    {
         let mut places = IndexMap::new(alloc);
         for (at, signature) in signatures.functions.as_slice().iter().enumerate() {
             note(&mut places, signature.name.as_slice(), at)?;
@@ -26,13 +37,17 @@ impl<'a> Callees<'a> {
     }
 
     /// The function of this name.
-    pub(crate) fn function(&self, name: &[u8]) -> Option<&'a Signature> {
+    pub(crate) fn function(&self, name: &[u8]) -> Option<&'a Signature>
+        ensures { option_copied result ≡ values.function_of self.now name.now }
+    {
         let place = self.places.get(name)?;
         self.signatures.functions.get(*place)
     }
 
     /// How many globals the module has.
-    pub(crate) fn globals(&self) -> u64 {
+    pub(crate) fn globals(&self) -> u64
+        ensures { result ≡ self.now.globals }
+    {
         self.signatures.globals
     }
 }

@@ -43,6 +43,7 @@ impl Defined {
 }
 
 /// What a function defines, or the first place at which a name is defined again.
+#[derive(Drop)]
 pub(crate) enum Names {
     Once(Defined),
     Again(Place),

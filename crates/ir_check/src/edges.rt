@@ -4,7 +4,8 @@ ghost use Rattle.std.specs.Prelude.{◌≡◌, slice_get, map};
 ghost use Rattle.ir_model.specs.declared.function.Instr.{Instr};
 ghost use Rattle.ir_rules.specs.Spots.{named_by};
 ghost use Rattle.ir_rules.specs.Blocks as blocks;
-ghost use Rattle.ir_check.specs.Places.{leads_to, late_places};
+ghost use Rattle.ir_model.specs.Shapes as shapes;
+ghost use Rattle.ir_check.specs.Instrs.{op_leads_to, leads_to, late_places};
 
 use crate::instrs::place_of;
 use ir_model::{Block, Function, Instr, Op, Place};
@@ -34,7 +35,7 @@ fn any_leads_to(blocks: &[Block], b: BlockId) -> bool
 
 /// Whether an operation leads to a block.
 fn op_leads_to(op: &Op, b: BlockId) -> bool
-    ensures { result ≡ blocks.op_leads_to op.now b.0 }
+    ensures { result ≡ op_leads_to op.now b.0 }
 {
     match op {
         Op::Jump { to } => to.0 == b.0,
@@ -76,7 +77,7 @@ fn late_in(b: BlockId, instrs: &[Instr]) -> Option<Place>
 
 /// Whether an operation is a phi.
 pub(crate) fn is_phi(op: &Op) -> bool
-    ensures { result ≡ blocks.is_phi op.now }
+    ensures { result ≡ shapes.is_phi op.now }
 {
     matches!(op, Op::Phi { .. })
 }

@@ -3,20 +3,21 @@
 ghost use Rattle.std.specs.Prelude.{◌≡◌, slice_get, IfOk};
 ghost use Rattle.ir_rules.specs.Blocks as blocks;
 
+use crate::cases::low_bits;
 use crate::instrs::place_of;
-use flow_graph::Edges;
+use crate::sources::sources;
 use indexmap::IndexMap;
 use ir_model::{Block, Function, IrType, Op, Operand, PhiEntry, Place};
-use scev_base::BlockId;
+use sqlite_items::Items;
 use std::alloc::{AllocError, Global};
 
 /// The first phi whose entries aren't those of its block's edges.
 pub(crate) fn bad_entries(alloc: Global, f: &Function) -> Result<Option<Place>, AllocError>
     ensures { IfOk result (λ found. found ≡ slice_get (blocks.bad_entries f.now) 0) }
 {
-    let edges = Edges::new(alloc, f)?;
+    let rows = sources(alloc, f)?;
     for block in f.blocks.as_slice() {
-        match bad_in_block(alloc, &edges, block)? {
+        match bad_in_block(alloc, &rows, block)? {
             Some(place) => return Ok(Some(place)),
             None => {}
         }
@@ -25,8 +26,8 @@ pub(crate) fn bad_entries(alloc: Global, f: &Function) -> Result<Option<Place>, 
 }
 
 /// The first such phi of a block.
-fn bad_in_block(alloc: Global, edges: &Edges, block: &Block) -> Result<Option<Place>, AllocError> {
-    let sources = sorted_sources(alloc, edges.preds(block.id))?;
+fn bad_in_block(alloc: Global, rows: &[Items<u64>], block: &Block) -> Result<Option<Place>, AllocError> {
+    let sources = sorted(alloc, rows[block.id.0 as usize].as_slice())?;
     for instr in block.instrs.as_slice() {
         if let Op::Phi { kind, entries } = &instr.op {
             if !entries_fit(alloc, kind, entries.as_slice(), &sources)? {
@@ -37,14 +38,11 @@ fn bad_in_block(alloc: Global, edges: &Edges, block: &Block) -> Result<Option<Pl
     Ok(None)
 }
 
-/// The numbers of blocks, in order.
-fn sorted_sources(alloc: Global, blocks: &[BlockId]) -> Result<Vec<u64>, AllocError> {
-    let mut numbers = Vec::new(alloc);
-    for block in blocks {
-        numbers.push(block.0)?;
-    }
-    numbers.sort_unstable();
-    Ok(numbers)
+/// Numbers in order.
+fn sorted(alloc: Global, numbers: &[u64]) -> Result<Vec<u64>, AllocError> {
+    let mut sorted = Vec::from_slice(alloc, numbers)?;
+    sorted.sort_unstable();
+    Ok(sorted)
 }
 
 /// Whether the entries of a phi are one for each edge, and those from one block have one operand.
@@ -94,5 +92,3 @@ fn same_operand(kind: &IrType, left: &Operand, right: &Operand) -> bool
         _ => false,
     }
 }
-
-use crate::cases::low_bits;

@@ -1,7 +1,9 @@
 //! The rules of a function's shape.
 
-ghost use Rattle.std.specs.Prelude.{◌≡◌, Some, None, slice_get, OnOk, IfOk};
-ghost use Rattle.ir_model.specs.WellMade.{IsWellMade};
+ghost use Rattle.std.specs.Prelude.{◌≡◌, Some, None, Err, slice_get, OnOk, IfOk};
+ghost use Rattle.ir_model.specs.WellMade.{HasIds};
+ghost use Rattle.ir_model.specs.declared.rule.Rule.{Rule};
+ghost use Rattle.ir_model.specs.declared.rule.Place.{Place};
 ghost use Rattle.ir_rules.specs.Rules.{broken, first_broken};
 
 use crate::callees::Callees;
@@ -39,7 +41,12 @@ const SHAPE_RULES: [Rule; 14] = [
 /// one that is and its first place in text order. The rule on uses and definitions isn't among them.
 ///
 /// Time linear in the function, beside the order of a block's edges.
-pub fn check_function(alloc: Global, callees: &Callees<'_>, f: &Function) -> Result<(), Ill> {
+pub fn check_function(alloc: Global, callees: &Callees<'_>, f: &Function) -> Result<(), Ill>
+    requires ids { HasIds f.now }
+    ensures accepted { OnOk result (first_broken callees.now f.now ≡ None) }
+    ensures refused { (rule : Rule) (place : Place) → result ≡ Err (Ill.Broken rule place)
+        → first_broken callees.now f.now ≡ Some (rule, place) }
+{
     for rule in SHAPE_RULES {
         if let Some(place) = first_place(alloc, rule, callees, f)? {
             return Err(Ill::Broken { rule, place });
@@ -54,7 +61,10 @@ fn first_place(
     rule: Rule,
     callees: &Callees<'_>,
     f: &Function,
-) -> Result<Option<Place>, AllocError> {
+) -> Result<Option<Place>, AllocError>
+    requires ids { HasIds f.now }
+    ensures { IfOk result (λ found. found ≡ slice_get (broken callees.now f.now rule) 0) }
+{
     match rule {
         Rule::DuplicateName => duplicate(alloc, f),
         Rule::UndefinedName => undefined(alloc, callees, f),

@@ -1,7 +1,9 @@
 //! What stands outside functions.
 
-ghost use Rattle.std.specs.Prelude.{◌≡◌, Some, None, slice_get, OnOk, IfOk};
-ghost use Rattle.ir_rules.specs.Items as items;
+ghost use Rattle.std.specs.Prelude.{◌≡◌, Some, None, Err, slice_get, OnOk, IfOk};
+ghost use Rattle.ir_model.specs.declared.rule.Rule.{Rule};
+ghost use Rattle.ir_model.specs.declared.rule.Place.{Place};
+ghost use Rattle.ir_rules.specs.Items as rules;
 ghost use Rattle.ir_rules.specs.Rules.{items_broken, first_item_broken};
 
 use crate::ill::Ill;
@@ -28,7 +30,11 @@ const FUNCTIONS: usize = 1024;
 /// none of them is broken, `Broken` with the first one that is and the first item in text order that breaks it.
 ///
 /// Time linear in the items.
-pub fn check_module(alloc: Global, m: &Module) -> Result<(), Ill> {
+pub fn check_module(alloc: Global, m: &Module) -> Result<(), Ill>
+    ensures accepted { OnOk result (first_item_broken m.now ≡ None) }
+    ensures refused { (rule : Rule) (place : Place) → result ≡ Err (Ill.Broken rule place)
+        → first_item_broken m.now ≡ Some (rule, place) }
+{
     for rule in ITEM_RULES {
         if let Some(place) = first_item(alloc, rule, m.items.as_slice())? {
             return Err(Ill::Broken { rule, place });
@@ -92,7 +98,7 @@ fn is_breaking(rule: Rule, item: &Item) -> bool {
 
 /// Whether an initialiser isn't of its global's type.
 fn is_mistyped(item: &Item) -> bool
-    ensures { result ≡ items.is_mistyped item.now }
+    ensures { result ≡ rules.is_mistyped item.now }
 {
     match item {
         Item::Global(Global_ { kind, init: Some(value), .. }) => !init_fits(kind, value),
@@ -102,7 +108,7 @@ fn is_mistyped(item: &Item) -> bool
 
 /// Whether a numeral of an initialiser is out of range.
 fn is_out_of_range(item: &Item) -> bool
-    ensures { result ≡ items.is_out_of_range item.now }
+    ensures { result ≡ rules.is_out_of_range item.now }
 {
     match item {
         Item::Global(Global_ { kind, init: Some(value), .. }) => !init_in_range(kind, value),
@@ -112,7 +118,7 @@ fn is_out_of_range(item: &Item) -> bool
 
 /// Whether a width of a global or of a declaration isn't one that its place allows.
 fn has_bad_width(item: &Item) -> bool
-    ensures { result ≡ items.has_bad_width item.now }
+    ensures { result ≡ rules.has_bad_width item.now }
 {
     match item {
         Item::Global(global) => !is_whole(&global.kind),
@@ -128,7 +134,7 @@ fn has_wide_types(declare: &Declare) -> bool {
 
 /// The first item that is past a limit.
 fn item_past(items: &[Item]) -> Option<Place>
-    ensures { result ≡ slice_get (items.items_past 0 0 items.now) 0 }
+    ensures { result ≡ slice_get (rules.items_past 0 0 items.now) 0 }
 {
     let mut functions = 0;
     for (at, item) in items.iter().enumerate() {

@@ -21,6 +21,7 @@ mod widths;
 // Blocks and phis.
 mod edges;
 mod entries;
+mod sources;
 
 // Single operations.
 mod calls;

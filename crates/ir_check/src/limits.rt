@@ -2,6 +2,7 @@
 
 ghost use Rattle.std.specs.Prelude.{◌≡◌, ◌≤◌, slice_get};
 ghost use Rattle.ir_rules.specs.Limits as limits;
+ghost use Rattle.ir_check.specs.Instrs.{capped};
 
 use crate::instrs::place_of;
 use ir_model::{Block, Function, Instr, IrType, Op, Place};
@@ -74,7 +75,7 @@ pub(crate) fn is_within(kind: &IrType) -> bool
 
 /// The bytes of an array, where they are at most 2^31; more than 2^31, where they are.
 fn capped_size(dims: &[u64], width: u32) -> u128
-    ensures { result ≡ limits.capped (limits.array_size dims.now width) }
+    ensures { result ≡ capped (limits.array_size dims.now width) }
 {
     let mut size = int_size(width);
     for dim in dims {

@@ -1,6 +1,6 @@
 //! Numerals in the range of their types.
 
-ghost use Rattle.std.specs.Prelude.{◌≡◌};
+ghost use Rattle.std.specs.Prelude.{◌≡◌, ◌<◌};
 ghost use Rattle.ir_rules.specs.Types as types;
 
 use ir_model::{Case, IrType, Op, Operand, TypedOperand};

@@ -9,6 +9,7 @@ use ir_model::{Block, Case, Function, Instr, Op, Operand, PhiEntry, Place, Typed
 use scev_base::BlockId;
 
 /// What an instruction may name: the values and blocks that are defined, so many globals, and its own place.
+#[derive(Drop)]
 struct Scope<'a> {
     defined: &'a Defined,
     globals: u64,
