@@ -1,5 +1,5 @@
 -- What sentences of a production tell of what they spell.
-use Rattle.std.proofs.Common.{◌≡◌, ◌≢◌, List, [], ◌∷◌, All}
+use Rattle.std.proofs.Common.{◌≢◌, List, [], ◌∷◌, All}
 use Rattle.std.proofs.lemmas.List.Elements.{All-nil, All-cons}
 use Rattle.ir_model.specs.declared.types.IrType.{IrType}
 use Rattle.ir_text.specs.Tokens.{Lexeme}
