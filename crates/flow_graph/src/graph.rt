@@ -1,10 +1,10 @@
 //! The blocks of a function as a graph.
 
 ghost use Rattle.std.specs.Prelude.{◌≡◌, ◌++◌, [], map, replicate, IfOk, OnOk};
-ghost use Rattle.ir_meaning.specs.Thin.{IsThinFunction};
 ghost use Rattle.ir_model.specs.Shapes.{targets};
 ghost use Rattle.ir_model.specs.Walks.{successors};
-ghost use Rattle.loop_regions.specs.Graph.{IsGraphOf};
+ghost use Rattle.ir_model.specs.WellMade.{HasIds};
+ghost use Rattle.flow_graph.specs.Graph.{IsGraphOf};
 
 use ir_model::{Case, Function, Instr, Op};
 use sqlite_items::Items;
@@ -12,8 +12,8 @@ use std::alloc::{AllocError, Global};
 
 /// The graph of the function's edges, by the numbers of its blocks. Where more blocks have a number, the
 /// first one counts.
-pub(crate) fn arcs(alloc: Global, f: &Function) -> Result<Items<Items<usize>>, AllocError>
-    requires { IsThinFunction f.now }
+pub fn arcs(alloc: Global, f: &Function) -> Result<Items<Items<usize>>, AllocError>
+    requires { HasIds f.now }
     ensures { IfOk result (λ graph. IsGraphOf f.now graph) }
 {
     let blocks = f.blocks.as_slice();
@@ -27,7 +27,7 @@ pub(crate) fn arcs(alloc: Global, f: &Function) -> Result<Items<Items<usize>>, A
 }
 
 /// A graph of so many nodes without arcs.
-pub(crate) fn no_arcs(alloc: Global, nodes: usize) -> Result<Vec<Items<usize>>, AllocError>
+pub fn no_arcs(alloc: Global, nodes: usize) -> Result<Vec<Items<usize>>, AllocError>
     ensures { IfOk result (λ graph. graph.items ≡ replicate nodes []) }
 {
     let mut graph = Vec::new(alloc);
