@@ -1,0 +1,6 @@
+//! Rows of bits.
+#![tactic(auto)]
+
+mod row;
+
+pub use row::BitRow;

@@ -1,0 +1,9 @@
+pub mod Spots
+pub mod Names
+pub mod Types
+pub mod Blocks
+pub mod Values
+pub mod Limits
+pub mod Items
+pub mod Uses
+pub mod Rules
