@@ -4,4 +4,5 @@ pub mod ArcLemmas
 pub mod PathLemmas
 pub mod WalkPaths
 pub mod SearchLemmas
+pub mod BehindLemmas
 pub mod ReverseLemmas

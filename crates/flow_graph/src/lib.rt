@@ -7,4 +7,4 @@ mod search;
 
 pub use graph::{arcs, no_arcs};
 pub use reverse::reversed;
-pub use search::collect;
+pub use search::{collect, mark_behind};
