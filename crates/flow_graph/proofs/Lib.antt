@@ -6,3 +6,4 @@ pub mod WalkPaths
 pub mod SearchLemmas
 pub mod BehindLemmas
 pub mod ReverseLemmas
+pub mod SourceLemmas

@@ -17,7 +17,7 @@ pub fn arcs(alloc: Global, f: &Function) -> Result<Items<Items<usize>>, AllocErr
     ensures { IfOk result (λ graph. IsGraphOf f.now graph) }
 {
     let blocks = f.blocks.as_slice();
-    let mut graph = Items::from_vec(no_arcs(alloc, f.labels.len())?);
+    let mut graph = Items::from_vec(no_rows(alloc, f.labels.len())?);
     for i in (0..blocks.len()).rev() {
         let block = &blocks[i];
         let targets = block_targets(alloc, block.instrs.as_slice())?;
@@ -26,19 +26,19 @@ pub fn arcs(alloc: Global, f: &Function) -> Result<Items<Items<usize>>, AllocErr
     Ok(graph)
 }
 
-/// A graph of so many nodes without arcs.
-pub fn no_arcs(alloc: Global, nodes: usize) -> Result<Vec<Items<usize>>, AllocError>
-    ensures { IfOk result (λ graph. graph.items ≡ replicate nodes []) }
+/// So many rows, each of them empty.
+pub fn no_rows<T: Drop>(alloc: Global, count: usize) -> Result<Vec<Items<T>>, AllocError>
+    ensures { IfOk result (λ rows. rows.items ≡ replicate count []) }
 {
-    let mut graph = Vec::new(alloc);
-    for _i in 0..nodes {
-        graph.push(Items::new(alloc))?;
+    let mut rows = Vec::new(alloc);
+    for _i in 0..count {
+        rows.push(Items::new(alloc))?;
     }
-    Ok(graph)
+    Ok(rows)
 }
 
 /// The blocks to which the instructions of a block may lead.
-fn block_targets(alloc: Global, instrs: &[Instr]) -> Result<Items<usize>, AllocError>
+pub(crate) fn block_targets(alloc: Global, instrs: &[Instr]) -> Result<Items<usize>, AllocError>
     ensures { IfOk result (λ out. out ≡ successors instrs.now) }
 {
     let mut out = Items::new(alloc);
