@@ -7,7 +7,7 @@ use Rattle.std.proofs.lemmas.Option.{none-some, same_Some, slice_get_within, sli
 use Rattle.scev_base.specs.declared.ids.ValueId.{ValueId}
 use Rattle.ir_model.specs.declared.function.Instr.{Instr}
 use Rattle.ir_model.specs.declared.function.Block.{Block}
-use Rattle.loop_regions.proofs.ListLemmas.{slice_get-set_same, slice_get-set_other, slice_get_push, slice_get-append}
+use Rattle.flow_graph.proofs.ListLemmas.{slice_get-set_same, slice_get-set_other, slice_get_push, slice_get-append}
 use Rattle.classify.specs.Places.{placed, IsGivenIn, ArePlaced, ArePlaces}
 
 -- an element of a list with one more is one of the list, or the last one

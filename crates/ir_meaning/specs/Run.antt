@@ -10,7 +10,7 @@ use Rattle.ir_meaning.specs.declared.phase.Phase.TheVariants as phase
 use Rattle.ir_meaning.specs.declared.choice.Choice.{Choice}
 use Rattle.ir_meaning.specs.Values.{Fits}
 use Rattle.ir_meaning.specs.State.{Registers, set, State}
-use Rattle.ir_model.specs.Shapes.{block_of, leading_phis, is_phi}
+use Rattle.ir_model.specs.Shapes.{block_of, entry, leading_phis, is_phi}
 use Rattle.ir_meaning.specs.Step.{step}
 
 -- The arguments fit: there is one for each parameter, of its type.

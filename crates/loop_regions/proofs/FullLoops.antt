@@ -5,7 +5,7 @@ use Rattle.ir_model.specs.declared.function.Function.{Function}
 use Rattle.ir_model.specs.Walks.{Edge, Walk, Reachable}
 use Rattle.loop_regions.specs.Loops.{Loop, IsRegion, IsLoop}
 use Rattle.loop_regions.specs.OneBlock.{IsOneBlockLoop, one_block}
-use Rattle.loop_regions.proofs.OneBlockLemmas.{walk_join}
+use Rattle.flow_graph.proofs.WalkPaths.{walk_join}
 
 only : (b c : ℕ) → Contains (b ∷ []) c → b ≡ c
 only b c (zero, within, is) = is

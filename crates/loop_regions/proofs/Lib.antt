@@ -1,12 +1,8 @@
 pub mod TurnSteps
 pub mod EnteredEdges
-pub mod ListLemmas
+pub mod ThinIds
 pub mod TableLemmas
-pub mod ArcLemmas
-pub mod SearchLemmas
-pub mod PathLemmas
 pub mod WalkLemmas
-pub mod ReverseLemmas
 pub mod TextOrderLemmas
 pub mod LoneLemmas
 pub mod OneBlockLemmas

@@ -7,7 +7,8 @@ use Rattle.std.proofs.lemmas.Option.{slice_get_within}
 use Rattle.scev_base.specs.declared.ids.BlockId.{BlockId}
 use Rattle.ir_model.specs.declared.function.Block.{Block}
 use Rattle.ir_model.specs.declared.function.Function.{Function}
-use Rattle.loop_regions.specs.OneBlock.{IsOneBlockLoop, StandsBefore, AreLoops}
+use Rattle.flow_graph.specs.TextOrder.{StandsBefore}
+use Rattle.loop_regions.specs.OneBlock.{IsOneBlockLoop, AreLoops}
 use Rattle.loop_regions.proofs.OrderedLemmas.{one_ordered}
 
 -- what is found stands somewhere

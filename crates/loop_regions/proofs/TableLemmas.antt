@@ -6,7 +6,7 @@ use Rattle.std.proofs.lemmas.Option.{none-some, same_Some}
 use Rattle.scev_base.specs.declared.ids.BlockId.{BlockId}
 use Rattle.scev_base.specs.declared.ids.LoopId.{LoopId}
 use Rattle.loop_regions.specs.Table.{AreNumbered}
-use Rattle.loop_regions.proofs.ListLemmas.{slice_get-set_same, slice_get-set_other, slice_get_push, slice_get-append}
+use Rattle.flow_graph.proofs.ListLemmas.{slice_get-set_same, slice_get-set_other, slice_get_push, slice_get-append}
 
 -- where a block has no loop, it is no header
 pub none_holds : (headers : List BlockId) (innermost : List (Option LoopId)) → AreNumbered headers innermost → (b : BlockId) (found : Option LoopId) → slice_get innermost b.0 ≡ Some found → IfNone found (Contains headers b → ⊥)

@@ -9,11 +9,11 @@ use Rattle.std.proofs.lemmas.Option.{same_Some}
 use Rattle.scev_base.specs.declared.ids.BlockId.{BlockId}
 use Rattle.ir_model.specs.declared.function.Block.{Block}
 use Rattle.ir_model.specs.declared.function.Function.{Function}
-use Rattle.loop_regions.specs.OneBlock.{StandsBefore}
-use Rattle.loop_regions.specs.Graph.{IsMarked}
+use Rattle.flow_graph.specs.TextOrder.{StandsBefore}
+use Rattle.flow_graph.specs.Graph.{IsMarked}
 use Rattle.loop_regions.specs.TextOrder.{AreListed}
-use Rattle.loop_regions.proofs.ArcLemmas.{find_is}
-use Rattle.loop_regions.proofs.SearchLemmas.{marked_within}
+use Rattle.flow_graph.proofs.ArcLemmas.{find_is}
+use Rattle.flow_graph.proofs.SearchLemmas.{marked_within}
 
 abbrev pub id_at : List Block → ℕ → ℕ
 id_at blocks i = (get_or blocks i (record { id = record { 0 = 0 }; instrs = [] })).id.0

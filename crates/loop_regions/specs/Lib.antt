@@ -2,5 +2,5 @@ pub mod Loops
 pub mod Turns
 pub mod OneBlock
 pub mod Table
-pub mod Graph
+pub mod Order
 pub mod TextOrder

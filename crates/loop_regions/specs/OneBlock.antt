@@ -1,8 +1,9 @@
 -- Loops of one block.
-use Rattle.std.specs.Prelude.{◌≡◌, ◌↔◌, ◌==◌, ℕ, ◌<◌, List, [], ◌∷◌, Some, All, AllPairs, Contains, position}
+use Rattle.std.specs.Prelude.{◌≡◌, ◌↔◌, ℕ, List, [], ◌∷◌, All, AllPairs, Contains}
 use Rattle.scev_base.specs.declared.ids.BlockId.{BlockId}
 use Rattle.ir_model.specs.declared.function.Function.{Function}
 use Rattle.ir_model.specs.Walks.{Edge, Walk, Reachable}
+use Rattle.flow_graph.specs.TextOrder.{StandsBefore}
 use Rattle.loop_regions.specs.Loops.{Loop}
 
 -- A reachable block with an edge to itself, and with no other walk back to it: each one passes that block alone.
@@ -14,11 +15,6 @@ pub record IsOneBlockLoop (f : Function) (b : ℕ) : Type 0 where
 -- the loop of one block as a set
 abbrev pub one_block : ℕ → Loop
 one_block b = record { header = b; blocks = b ∷ [] }
-
--- One block stands before another one in the text.
-abbrev pub StandsBefore : Function → ℕ → ℕ → Type 0
-StandsBefore f a b = (i j : ℕ) → position (λ block. block.id.0 == a) f.blocks ≡ Some i
-    → position (λ block. block.id.0 == b) f.blocks ≡ Some j → i < j
 
 -- These are all loops of one block of the function, by their headers, in text order.
 pub record AreLoops (f : Function) (headers : List BlockId) : Type 0 where

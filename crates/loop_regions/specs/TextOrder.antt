@@ -4,8 +4,8 @@ use Rattle.scev_base.specs.declared.ids.BlockId.{BlockId}
 use Rattle.ir_model.specs.declared.function.Block.{Block}
 use Rattle.ir_model.specs.declared.function.Function.{Function}
 use Rattle.ir_model.specs.Shapes.{block_of}
-use Rattle.loop_regions.specs.OneBlock.{StandsBefore}
-use Rattle.loop_regions.specs.Graph.{IsMarked}
+use Rattle.flow_graph.specs.TextOrder.{StandsBefore}
+use Rattle.flow_graph.specs.Graph.{IsMarked}
 
 -- The list has the numbers of the marked blocks, in text order.
 pub record AreListed (f : Function) (marks : List Bool) (headers : List BlockId) : Type 0 where

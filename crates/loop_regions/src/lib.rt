@@ -1,13 +1,10 @@
 //! Loops of a function as sets of blocks.
 #![tactic(auto)]
 
-mod arcs;
 mod finish;
 mod laws;
 mod lone;
 mod one_block;
-mod reverse;
-mod search;
 mod table;
 mod text_order;
 

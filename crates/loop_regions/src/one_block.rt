@@ -4,10 +4,10 @@ ghost use Rattle.std.specs.Prelude.{IfOk};
 ghost use Rattle.ir_meaning.specs.Thin.{IsThinFunction};
 ghost use Rattle.loop_regions.specs.OneBlock.{AreLoops};
 
-use crate::arcs::arcs;
 use crate::lone::lone_nodes;
 use crate::table::LoopTable;
 use crate::text_order::in_text_order;
+use flow_graph::arcs;
 use ir_model::Function;
 use std::alloc::{AllocError, Global};
 

@@ -4,9 +4,14 @@ use Rattle.scev_base.specs.declared.ids.BlockId.{BlockId}
 use Rattle.ir_model.specs.declared.function.Block.{Block}
 use Rattle.ir_model.specs.Shapes.{entry}
 use Rattle.loop_regions.specs.OneBlock.{AreLoops}
-use Rattle.loop_regions.specs.Graph.{Arc, Path, IsClosed, IsMarked, IsLone}
+use Rattle.flow_graph.specs.Graph.{Arc, Path, IsClosed, IsMarked}
+use Rattle.loop_regions.specs.Order.{IsLone}
 use Rattle.loop_regions.proofs.OneBlockLemmas.{AreLoops_listed, first_is_entry, listed_within}
+use Rattle.loop_regions.proofs.ThinIds.{thin_ids}
 use Rattle.loop_regions.proofs.one_block.loops.Goals as goal
+
+pub arcs-requires : goal.arcs-requires
+arcs-requires c = thin_ids c.args.f.now c.requires.thin
 
 pub lone_nodes-requires-clause-closed : goal.lone_nodes-requires-clause-closed
 lone_nodes-requires-clause-closed c = subst IsClosed (sym c.as_slice.ensures) c.in_ok-graph.ensures.closed

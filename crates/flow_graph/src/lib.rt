@@ -1,0 +1,13 @@
+//! The graph of a function's blocks.
+#![tactic(auto)]
+
+mod edges;
+mod graph;
+mod reverse;
+mod search;
+mod sources;
+
+pub use edges::Edges;
+pub use graph::{arcs, no_rows};
+pub use reverse::reversed;
+pub use search::{collect, mark_behind};
