@@ -7,5 +7,6 @@ pub mod SearchLemmas
 pub mod BehindLemmas
 pub mod ReachLemmas
 pub mod FlowLemmas
+pub mod EdgeLemmas
 pub mod ReverseLemmas
 pub mod SourceLemmas

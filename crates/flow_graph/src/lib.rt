@@ -13,4 +13,4 @@ pub use edges::Edges;
 pub use flow::Flow;
 pub use graph::{arcs, no_rows};
 pub use reverse::reversed;
-pub use search::{collect, mark_behind};
+pub use search::collect;
