@@ -5,5 +5,8 @@ pub mod PathLemmas
 pub mod WalkPaths
 pub mod SearchLemmas
 pub mod BehindLemmas
+pub mod ReachLemmas
+pub mod FlowLemmas
+pub mod EdgeLemmas
 pub mod ReverseLemmas
 pub mod SourceLemmas

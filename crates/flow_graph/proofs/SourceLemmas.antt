@@ -25,7 +25,7 @@ sources_push from targets to b test e =
 pub source_added : (old new : List (List BlockId)) (from : BlockId) (targets : List ℕ) (to : ℕ) → to < length new
     → ((b : ℕ) → get_or new b [] ≡ get_or old b [] ++ sources_in from targets b)
     → (b : ℕ) → get_or (set new to (get_or new to [] ++ from ∷ [])) b []
-        ≡ get_or old b [] ++ sources_in from (targets ++ to ∷ []) b
+    ≡ get_or old b [] ++ sources_in from (targets ++ to ∷ []) b
 source_added old new from targets to within rows b =
     let row = get_or new to [] ++ from ∷ [] in
     elim (cases_eq b to) [

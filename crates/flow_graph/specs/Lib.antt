@@ -1,3 +1,4 @@
 pub mod Graph
 pub mod TextOrder
 pub mod EdgeLists
+pub mod Flow

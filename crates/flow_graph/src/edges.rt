@@ -87,10 +87,7 @@ fn row_at(rows: &[Items<BlockId>], b: BlockId) -> &[BlockId]
 }
 
 /// Rows of numbers as rows of blocks.
-fn named_rows(
-    alloc: Global,
-    rows: &[Items<usize>],
-) -> Result<Vec<Items<BlockId>>, AllocError>
+fn named_rows(alloc: Global, rows: &[Items<usize>]) -> Result<Vec<Items<BlockId>>, AllocError>
     ensures { IfOk result (λ named. named.items ≡ map (map block_id) rows.now) }
 {
     let mut named = Vec::new(alloc);

@@ -10,8 +10,9 @@ use ir_model::{Case, Function, Instr, Op};
 use sqlite_items::Items;
 use std::alloc::{AllocError, Global};
 
-/// The graph of the function's edges, by the numbers of its blocks. Where more blocks have a number, the
-/// first one counts.
+/// The graph of a function's edges, by the numbers of its blocks. Where more blocks have a number, the first
+/// one counts. It takes time linear in the instructions, their cases and the labels. The error comes only
+/// where there is no memory for the lists.
 pub fn arcs(alloc: Global, f: &Function) -> Result<Items<Items<usize>>, AllocError>
     requires { HasIds f.now }
     ensures { IfOk result (λ graph. IsGraphOf f.now graph) }
@@ -26,7 +27,7 @@ pub fn arcs(alloc: Global, f: &Function) -> Result<Items<Items<usize>>, AllocErr
     Ok(graph)
 }
 
-/// So many rows, each of them empty.
+/// So many rows, each of them empty. The error comes only where there is no memory for them.
 pub fn no_rows<T: Drop>(alloc: Global, count: usize) -> Result<Vec<Items<T>>, AllocError>
     ensures { IfOk result (λ rows. rows.items ≡ replicate count []) }
 {

@@ -2,12 +2,15 @@
 #![tactic(auto)]
 
 mod edges;
+mod flow;
 mod graph;
+mod reach;
 mod reverse;
 mod search;
 mod sources;
 
 pub use edges::Edges;
+pub use flow::Flow;
 pub use graph::{arcs, no_rows};
 pub use reverse::reversed;
-pub use search::{collect, mark_behind};
+pub use search::collect;

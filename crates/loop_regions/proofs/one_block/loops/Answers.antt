@@ -6,7 +6,8 @@ use Rattle.ir_model.specs.Shapes.{entry}
 use Rattle.loop_regions.specs.OneBlock.{AreLoops}
 use Rattle.flow_graph.specs.Graph.{Arc, Path, IsClosed, IsMarked}
 use Rattle.loop_regions.specs.Order.{IsLone}
-use Rattle.loop_regions.proofs.OneBlockLemmas.{AreLoops_listed, first_is_entry, listed_within}
+use Rattle.flow_graph.proofs.FlowLemmas.{first_is_entry}
+use Rattle.loop_regions.proofs.OneBlockLemmas.{AreLoops_listed, listed_within}
 use Rattle.loop_regions.proofs.ThinIds.{thin_ids}
 use Rattle.loop_regions.proofs.one_block.loops.Goals as goal
 
