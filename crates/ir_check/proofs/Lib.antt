@@ -1,0 +1,2 @@
+mod LowBits
+mod CasesDiffer
