@@ -1,8 +1,6 @@
 //! Cases of a switch, modulo 2^w.
 
 ghost use Rattle.std.specs.Prelude.{◌≡◌, ◌==◌, min, [], map, IfOk};
-ghost use Rattle.std.specs.Int.RustNames.{FitsSigned};
-ghost use mir.Syntax.{w128};
 ghost use Rattle.scev_base.specs.Residue.{residue};
 ghost use Rattle.ir_rules.specs.Types as types;
 ghost use Rattle.ir_rules.specs.Spots.{repeated};
@@ -25,7 +23,8 @@ pub(crate) fn cases_differ(alloc: Global, op: &Op) -> Result<bool, AllocError>
 
 /// Whether no two cases are one at a type.
 fn differ(alloc: Global, kind: &IrType, cases: &[Case]) -> Result<bool, AllocError>
-    ensures { IfOk result (λ differ. differ ≡ values.is_empty (repeated (λ m n. m == n) [] (map (λ one. residue (types.width_of kind.now) one.number) cases.now))) }
+    ensures { IfOk result (λ differ. differ ≡ values.is_empty (repeated (λ m n. m == n) []
+        (map (λ one. residue (types.width_of kind.now) one.number) cases.now))) }
 {
     let mut seen: IndexSet<u128> = IndexSet::new(alloc);
     for case in cases {
@@ -39,8 +38,7 @@ fn differ(alloc: Global, kind: &IrType, cases: &[Case]) -> Result<bool, AllocErr
 
 /// A number's lowest bits at a type: its residue modulo 2^w, where w is the width of the type, at most 128.
 pub(crate) fn low_bits(kind: &IrType, number: i128) -> u128
-    ensures value { result ≡ residue (min (types.width_of kind.now) 128) number }
-    ensures fits { FitsSigned w128 number }
+    ensures { result ≡ residue (min (types.width_of kind.now) 128) number }
 {
     let width = width_of(kind);
     let bits = number.cast_unsigned();
