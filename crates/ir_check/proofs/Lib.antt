@@ -1,2 +1,3 @@
 mod LowBits
 mod CasesDiffer
+mod SameTypes

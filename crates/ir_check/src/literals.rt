@@ -1,9 +1,10 @@
 //! Numerals in the range of their types.
 
 ghost use Rattle.std.specs.Prelude.{◌≡◌, ◌<◌};
+ghost use Rattle.std.specs.List.{list_all};
 ghost use Rattle.ir_rules.specs.Types as types;
 
-use ir_model::{Case, IrType, Op, Operand, TypedOperand};
+use ir_model::{Case, IrType, Op, Operand, PhiEntry, TypedOperand};
 
 /// Whether each numeral of an operation is in the range of its type.
 pub(crate) fn literals_fit(op: &Op) -> bool
@@ -19,14 +20,12 @@ pub(crate) fn literals_fit(op: &Op) -> bool
                 && literal_fits(&yes.kind, &yes.value)
                 && literal_fits(&no.kind, &no.value)
         }
-        Op::Phi { kind, entries } => entries.as_slice().iter().all(|entry| literal_fits(kind, &entry.value)),
+        Op::Phi { kind, entries } => entries_fit(kind, entries.as_slice()),
         Op::Freeze { kind, value } | Op::Store { kind, value, .. } => literal_fits(kind, value),
         Op::Gep { indices, .. } => all_fit(indices.as_slice()),
         Op::Call { args, .. } => all_fit(args.as_slice()),
         Op::Branch { cond, .. } => literal_fits(&IrType::Int(1), cond),
-        Op::Switch { kind, value, cases, .. } => {
-            literal_fits(kind, value) && cases.as_slice().iter().all(|case| case_fits(case))
-        }
+        Op::Switch { kind, value, cases, .. } => literal_fits(kind, value) && cases_fit(cases.as_slice()),
         Op::Ret { value: Some(typed) } => literal_fits(&typed.kind, &typed.value),
         Op::Alloca { .. } | Op::Load { .. } | Op::Jump { .. } | Op::Ret { value: None } | Op::Unreachable => true,
     }
@@ -37,6 +36,20 @@ fn all_fit(operands: &[TypedOperand]) -> bool
     ensures { result ≡ types.all_literals_fit operands.now }
 {
     operands.iter().all(|typed| literal_fits(&typed.kind, &typed.value))
+}
+
+/// Whether the numerals among the values of entries are in the range of a type.
+fn entries_fit(kind: &IrType, entries: &[PhiEntry]) -> bool
+    ensures { result ≡ list_all (λ entry. types.literal_fits kind.now entry.value) entries.now }
+{
+    entries.iter().all(|entry| literal_fits(kind, &entry.value))
+}
+
+/// Whether the numerals of cases are in range.
+fn cases_fit(cases: &[Case]) -> bool
+    ensures { result ≡ list_all (λ one. types.literal_fits one.kind (types.number one.number)) cases.now }
+{
+    cases.iter().all(|case| case_fits(case))
 }
 
 /// Whether a case's numeral is in range.
