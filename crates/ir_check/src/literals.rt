@@ -1,6 +1,6 @@
 //! Numerals in the range of their types.
 
-ghost use Rattle.std.specs.Prelude.{◌≡◌, ◌<◌};
+ghost use Rattle.std.specs.Prelude.{◌≡◌, ◌<◌, ◌≤◌, ◌-◌, ◌^◌, pos, ◌≤ℤ◌};
 ghost use Rattle.std.specs.List.{list_all};
 ghost use Rattle.ir_rules.specs.Types as types;
 
@@ -82,8 +82,18 @@ fn is_in_range(width: u32, number: i128) -> bool
     if width > 127 {
         return fits_wide(width, number);
     }
-    let half = 1_i128 << (width - 1);
+    let half = half(width);
     -half <= number && number - half < half
+}
+
+/// 2^(w-1).
+fn half(width: u32) -> i128
+    requires some { 0 < width }
+    requires narrow { width ≤ 127 }
+    ensures value { result ≡ pos (2 ^ (width - 1)) }
+    ensures bound { result ≤ℤ pos (2 ^ 126) }
+{
+    1 << (width - 1)
 }
 
 /// Whether a number is from -2^(w-1) to 2^w - 1, at 128 bits or more: each number of 128 bits is.
