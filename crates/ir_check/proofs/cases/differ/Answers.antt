@@ -1,4 +1,4 @@
-use Rattle.std.proofs.Common.{rules, arith, ◌≡◌, ◌+◌, ◌<◌, ◌==◌, List, [], ◌∷◌, ◌++◌, length, take, drop, true, false, not, min, sym, ap, ◌∙◌, take-append-drop}
+use Rattle.std.proofs.Common.{rules, arith, ◌≡◌, ◌+◌, ◌<◌, ◌==◌, [], ◌∷◌, ◌++◌, length, take, drop, true, false, min, sym, ap, ◌∙◌, take-append-drop}
 use Rattle.std.specs.List.{list_any}
 use Rattle.std.proofs.lemmas.List.{take_more}
 use Rattle.std.proofs.lemmas.Bool.{not-true, not-false}
@@ -7,7 +7,7 @@ use mir.Syntax.{w128}
 use Rattle.scev_base.specs.Residue.{residue}
 use Rattle.ir_model.specs.declared.op.Case.{Case}
 use Rattle.ir_rules.specs.Types.{width_of}
-use Rattle.ir_check.proofs.CasesDiffer.{Fit, AreSeen, seen_more, seen_twice, seen_none}
+use Rattle.ir_check.proofs.CasesDiffer.{Fit, seen_more, seen_twice, seen_none}
 use Rattle.ir_check.proofs.cases.differ.Goals as goal
 
 pub loop-case-init : goal.loop-case-init

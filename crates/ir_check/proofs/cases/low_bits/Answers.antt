@@ -1,4 +1,4 @@
-use Rattle.std.proofs.Common.{◌≡◌, ◌≤◌, ◌<◌, min, ap, ◌∙◌}
+use Rattle.std.proofs.Common.{min, ap, ◌∙◌}
 use Rattle.scev_base.specs.Residue.{residue}
 use Rattle.ir_check.proofs.LowBits.{all_bits, some_bits}
 use Rattle.ir_check.proofs.cases.low_bits.Goals as goal

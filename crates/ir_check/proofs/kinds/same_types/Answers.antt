@@ -1,4 +1,4 @@
-use Rattle.std.proofs.Common.{rules, arith, ◌≡◌, ◌+◌, ◌<◌, suc, length, sym, ◌∙◌}
+use Rattle.std.proofs.Common.{arith, ◌≡◌, ◌+◌, ◌<◌, suc, length, sym, ◌∙◌}
 use Rattle.ir_check.proofs.SameTypes.{other_length, same_behind}
 use Rattle.ir_check.proofs.kinds.same_types.Goals as goal
 

@@ -1,4 +1,4 @@
-use Rattle.std.proofs.Common.{◌≡◌, ◌-◌, ◌^◌, ◌<◌, ◌≤ℤ◌, ◌-ℤ◌, ℤ, pos, neg_ℤ, arith, rules}
+use Rattle.std.proofs.Common.{◌-◌, ◌^◌, ◌<◌, ◌≤ℤ◌, ◌-ℤ◌, pos, neg_ℤ, arith, rules}
 use Rattle.std.proofs.lemmas.Int.{ints, to_z-of_z}
 use mir.Syntax.{w128}
 use mir.Val.{SFits}
@@ -11,7 +11,7 @@ returns-then-half-number c =
     let n : SFits w128 c.args.number = c.ranges.number in
     let some : 0 < c.args.width = omega arith in
     let least : neg_ℤ (pos (2 ^ (c.args.width - 1))) ≤ℤ c.args.number = omega (arith, ints) in
-    let d : SFits w128 (c.args.number -ℤ c.half-half.result) = record { sfits = omega (arith, ints) } in
+    let d : SFits w128 (c.args.number -ℤ c.half-half.result) = search rules in
     rw (to_z-of_z w128 c.args.number n, to_z-of_z w128 c.half-half.result h,
     to_z-of_z w128 (c.args.number -ℤ c.half-half.result) d, c.half-half.ensures.value)
     (in_range_above c.args.width c.args.number some least)

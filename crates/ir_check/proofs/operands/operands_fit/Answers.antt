@@ -1,10 +1,10 @@
-use Rattle.std.proofs.Common.{rules, ◌≡◌, List, sym, ◌∙◌, ap}
+use Rattle.std.proofs.Common.{sym, ◌∙◌, ap}
 use Rattle.std.specs.List.{list_all}
 use Rattle.std.proofs.lemmas.List.Folds.{list_all-map}
 use Rattle.ir_model.specs.declared.op.Case.{Case}
 use Rattle.ir_model.specs.declared.op.PhiEntry.{PhiEntry}
 use Rattle.ir_model.specs.declared.op.TypedOperand.{TypedOperand}
-use Rattle.ir_rules.specs.Types.{fits, at_type, number, is_int, operands_fit, wanted}
+use Rattle.ir_rules.specs.Types.{fits, at_type, number, is_int}
 use Rattle.ir_check.proofs.operands.operands_fit.Goals as goal
 
 pub returns-in-Phi : goal.returns-in-Phi
