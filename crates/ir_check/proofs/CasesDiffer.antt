@@ -74,9 +74,12 @@ pub differ_more : (w : ℕ) (cases : List Case) (one : Case) → All Fit cases �
     → differ_at w (cases ++ one ∷ [])
     ≡ not (list_any (λ n. residue (min w 128) one.number == n) (map (λ (c : Case). residue (min w 128) c.number) cases))
 differ_more w cases one fit also apart_before =
-    rw (map-append (λ (c : Case). residue w c.number) cases (one ∷ []),
-    repeated_more [] (map (λ (c : Case). residue w c.number) cases) (residue w one.number), apart_before,
-    found w cases one (recursion_from_All Fit cases fit) also) refl
+    rw (
+      map-append (λ (c : Case). residue w c.number) cases (one ∷ []),
+      repeated_more [] (map (λ (c : Case). residue w c.number) cases) (residue w one.number),
+      apart_before,
+      found w cases one (recursion_from_All Fit cases fit) also,
+    ) refl
 
 pub differ_behind : (w : ℕ) (cases more : List Case) → differ_at w cases ≡ false → differ_at w (cases ++ more) ≡ false
 differ_behind w cases more e =

@@ -40,10 +40,14 @@ in_range_wide w n large fits =
     let some : 0 < w = omega arith in
     let most : 2 ^ 127 ≤ 2 ^ (w - 1) = pow_mono {i = 127} {j = w - 1} (omega arith) in
     let twice = double w some in
-    rw (not_zero w some, le_true (neg_ℤ (pos (2 ^ (w - 1)))) n (least n (2 ^ (w - 1)) most fits),
-    lt_true n (pos (2 ^ w)) (greatest n (2 ^ w) (omega arith) fits)) refl
+    rw (
+      not_zero w some,
+      le_true (neg_ℤ (pos (2 ^ (w - 1)))) n (least n (2 ^ (w - 1)) most fits),
+      lt_true n (pos (2 ^ w)) (greatest n (2 ^ w) (omega arith) fits),
+    ) refl
   where
     least : (n : ℤ) (h : ℕ) → 2 ^ 127 ≤ h → SFits w128 n → neg_ℤ (pos h) ≤ℤ n
     least n h most fits = omega (arith, ints, fits.sfits)
+
     greatest : (n : ℤ) (h : ℕ) → 2 ^ 127 ≤ h → SFits w128 n → n <ℤ pos h
     greatest n h most fits = omega (arith, ints, fits.sfits)

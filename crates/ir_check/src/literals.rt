@@ -11,9 +11,18 @@ pub(crate) fn literals_fit(op: &Op) -> bool
     ensures { result ≡ types.literals_fit op.now }
 {
     match op {
-        Op::Binary { kind, left, right, .. } | Op::Icmp { kind, left, right, .. } => {
-            literal_fits(kind, left) && literal_fits(kind, right)
+        Op::Binary {
+            kind,
+            left,
+            right,
+            ..
         }
+        | Op::Icmp {
+            kind,
+            left,
+            right,
+            ..
+        } => { literal_fits(kind, left) && literal_fits(kind, right) }
         Op::Cast { from, value, .. } => literal_fits(from, value),
         Op::Select { cond, yes, no } => {
             literal_fits(&IrType::Int(1), cond)
@@ -25,9 +34,18 @@ pub(crate) fn literals_fit(op: &Op) -> bool
         Op::Gep { indices, .. } => all_fit(indices.as_slice()),
         Op::Call { args, .. } => all_fit(args.as_slice()),
         Op::Branch { cond, .. } => literal_fits(&IrType::Int(1), cond),
-        Op::Switch { kind, value, cases, .. } => literal_fits(kind, value) && cases_fit(cases.as_slice()),
+        Op::Switch {
+            kind,
+            value,
+            cases,
+            ..
+        } => literal_fits(kind, value) && cases_fit(cases.as_slice()),
         Op::Ret { value: Some(typed) } => literal_fits(&typed.kind, &typed.value),
-        Op::Alloca { .. } | Op::Load { .. } | Op::Jump { .. } | Op::Ret { value: None } | Op::Unreachable => true,
+        Op::Alloca { .. }
+        | Op::Load { .. }
+        | Op::Jump { .. }
+        | Op::Ret { value: None }
+        | Op::Unreachable => true,
     }
 }
 
@@ -35,7 +53,9 @@ pub(crate) fn literals_fit(op: &Op) -> bool
 fn all_fit(operands: &[TypedOperand]) -> bool
     ensures { result ≡ types.all_literals_fit operands.now }
 {
-    operands.iter().all(|typed| literal_fits(&typed.kind, &typed.value))
+    operands
+        .iter()
+        .all(|typed| literal_fits(&typed.kind, &typed.value))
 }
 
 /// Whether the numerals among the values of entries are in the range of a type.

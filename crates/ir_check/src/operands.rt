@@ -3,9 +3,6 @@
 ghost use Rattle.std.specs.Prelude.{◌≡◌};
 ghost use Rattle.std.specs.List.{list_all};
 ghost use Rattle.ir_rules.specs.Types as types;
-ghost use Rattle.ir_model.specs.declared.op.PhiEntry.{PhiEntry};
-ghost use Rattle.ir_model.specs.declared.op.Case.{Case};
-ghost use Rattle.ir_model.specs.declared.op.TypedOperand.{TypedOperand};
 
 use crate::kinds::{dimensions, is_int, is_pointer, same_type};
 use ir_model::{Case, Function, IrType, Op, Operand, PhiEntry, TypedOperand};
@@ -53,21 +50,38 @@ fn operands_fit(f: &Function, op: &Op) -> bool
     ensures { result ≡ types.operands_fit f.now (types.wanted op.now) }
 {
     match op {
-        Op::Binary { kind, left, right, .. } | Op::Icmp { kind, left, right, .. } => {
-            fits(f, kind, left) && fits(f, kind, right)
+        Op::Binary {
+            kind,
+            left,
+            right,
+            ..
         }
+        | Op::Icmp {
+            kind,
+            left,
+            right,
+            ..
+        } => { fits(f, kind, left) && fits(f, kind, right) }
         Op::Cast { from, value, .. } => fits(f, from, value),
         Op::Select { cond, yes, no } => {
-            fits(f, &IrType::Int(1), cond) && fits(f, &yes.kind, &yes.value) && fits(f, &no.kind, &no.value)
+            fits(f, &IrType::Int(1), cond)
+                && fits(f, &yes.kind, &yes.value)
+                && fits(f, &no.kind, &no.value)
         }
         Op::Phi { kind, entries } => entries_fit(f, kind, entries.as_slice()),
         Op::Freeze { kind, value } => fits(f, kind, value),
         Op::Load { from, .. } => fits(f, &IrType::Ptr, from),
         Op::Store { kind, value, to } => fits(f, kind, value) && fits(f, &IrType::Ptr, to),
-        Op::Gep { base, indices, .. } => fits(f, &IrType::Ptr, base) && all_fit(f, indices.as_slice()),
+        Op::Gep { base, indices, .. } => fits(f, &IrType::Ptr, base)
+            && all_fit(f, indices.as_slice()),
         Op::Call { args, .. } => all_fit(f, args.as_slice()),
         Op::Branch { cond, .. } => fits(f, &IrType::Int(1), cond),
-        Op::Switch { kind, value, cases, .. } => fits(f, kind, value) && cases_fit(cases.as_slice()),
+        Op::Switch {
+            kind,
+            value,
+            cases,
+            ..
+        } => fits(f, kind, value) && cases_fit(cases.as_slice()),
         Op::Ret { value: Some(typed) } => fits(f, &typed.kind, &typed.value),
         Op::Alloca { .. } | Op::Jump { .. } | Op::Ret { value: None } | Op::Unreachable => true,
     }
@@ -77,7 +91,9 @@ fn operands_fit(f: &Function, op: &Op) -> bool
 fn all_fit(f: &Function, operands: &[TypedOperand]) -> bool
     ensures { result ≡ types.operands_fit f.now operands.now }
 {
-    operands.iter().all(|typed| fits(f, &typed.kind, &typed.value))
+    operands
+        .iter()
+        .all(|typed| fits(f, &typed.kind, &typed.value))
 }
 
 /// Whether the values of entries fit a type.

@@ -12,6 +12,10 @@ returns-then-half-number c =
     let some : 0 < c.args.width = omega arith in
     let least : neg_ℤ (pos (2 ^ (c.args.width - 1))) ≤ℤ c.args.number = omega (arith, ints) in
     let d : SFits w128 (c.args.number -ℤ c.half-half.result) = search rules in
-    rw (to_z-of_z w128 c.args.number n, to_z-of_z w128 c.half-half.result h,
-    to_z-of_z w128 (c.args.number -ℤ c.half-half.result) d, c.half-half.ensures.value)
+    rw (
+      to_z-of_z w128 c.args.number n,
+      to_z-of_z w128 c.half-half.result h,
+      to_z-of_z w128 (c.args.number -ℤ c.half-half.result) d,
+      c.half-half.ensures.value,
+    )
     (in_range_above c.args.width c.args.number some least)
