@@ -1,0 +1,5 @@
+mod LowBits
+mod CasesDiffer
+mod SameTypes
+mod Ranges
+mod FirstBreaking
