@@ -1,0 +1,4 @@
+mod FirstPlaces
+mod LateLemmas
+mod LeadLemmas
+mod LimitLemmas
