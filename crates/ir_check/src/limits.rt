@@ -21,6 +21,13 @@ const BLOCKS: usize = 1024;
 const INSTRS: usize = 8192;
 
 /// The first block or instruction of a function that is past a limit.
+#[tactic(auto, using(
+    crate::proofs::FirstPlaces::rest_at,
+    crate::proofs::LimitLemmas::small_behind,
+    crate::proofs::LimitLemmas::many_blocks,
+    crate::proofs::LimitLemmas::block_found,
+    crate::proofs::LimitLemmas::block_behind
+))]
 pub(crate) fn past_limit(f: &Function) -> Option<Place>
     ensures { result ≡ slice_get (limits.past_limits f.now) 0 }
 {
