@@ -2,3 +2,5 @@ mod FirstPlaces
 mod LateLemmas
 mod LeadLemmas
 mod LimitLemmas
+mod DefinedSteps
+mod DefinedRows
