@@ -1,11 +1,10 @@
 -- What the rows tell, once definitions are in them.
-use Rattle.std.proofs.Common.{◌≡◌, ◌≢◌, ℕ, zero, suc, ◌==◌, ◌<◌, ◌≤◌, Bool, true, false, ◌||◌, List, [], ◌∷◌, ◌++◌, map, length, replicate, get_or, set, Option, Some, None, slice_get, refl, sym, ap, ◌∙◌, inl, inr, arith, get_or-set_same, get_or-set_other, length-set}
+use Rattle.std.proofs.Common.{◌≡◌, ℕ, ◌==◌, ◌<◌, Bool, true, false, ◌||◌, List, [], ◌∷◌, ◌++◌, length, replicate, get_or, set, slice_get, refl, sym, ap, ◌∙◌, inl, inr, arith, get_or-set_same, get_or-set_other}
 use Rattle.std.specs.List.{list_any, flat_map}
 use Rattle.std.proofs.lemmas.Bool.{cases_Bool, cases_eq, eq-eqb, ne_eqb, cases_lt}
 use Rattle.std.proofs.lemmas.List.{get_or_past, get_or-replicate, length-replicate}
 use Rattle.std.proofs.lemmas.List.Concat.{flat_map_single}
 use Rattle.ir_model.specs.declared.function.Param.{Param}
-use Rattle.ir_model.specs.declared.function.Block.{Block}
 use Rattle.ir_model.specs.declared.function.Function.{Function}
 use Rattle.ir_model.specs.declared.rule.Place.{Place}
 use Rattle.ir_model.specs.declared.rule.Place.TheVariants.{Value, BlockAt, UseIn, Item}
@@ -65,7 +64,7 @@ again-repeated d before (at ∷ places) known room =
           (again-repeated (with_place d at) (at ∷ before) places (Knows-more d before at known room.0) room.1)
     ]
 
-or_none : (a : Bool) → a ≡ (a || false)
+pub or_none : (a : Bool) → a ≡ (a || false)
 or_none true = refl
 or_none false = refl
 
@@ -85,7 +84,7 @@ has-all d (at ∷ places) room p =
 
 -- ---- rows of no bit
 
-pub none : ℕ → ℕ → Defined
+abbrev pub none : ℕ → ℕ → Defined
 none values blocks = record { values = replicate values false; blocks = replicate blocks false }
 
 no_bit : (n i : ℕ) → get_or (replicate n false) i false ≡ false
@@ -96,7 +95,6 @@ no_bit n i =
     ]
 
 pub Knows-none : (values blocks : ℕ) → Knows (none values blocks) []
-unfolding none
 Knows-none values blocks (Value v) = no_bit values v.0
 Knows-none values blocks (BlockAt b) = no_bit blocks b.0
 Knows-none values blocks (UseIn v b) = refl

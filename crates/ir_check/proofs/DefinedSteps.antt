@@ -1,13 +1,13 @@
 -- Definitions, one after another.
-use Rattle.std.proofs.Common.{◌≡◌, ℕ, ◌+◌, ◌<◌, ◌≤◌, Bool, true, false, List, [], ◌∷◌, ◌++◌, length, get_or, drop, Option, Some, None, refl, sym, ap, ◌∙◌, inl, inr}
-use Rattle.std.specs.List.{flat_map, fold}
+use Rattle.std.proofs.Common.{◌≡◌, ℕ, ◌+◌, ◌<◌, ◌≤◌, List, [], ◌∷◌, ◌++◌, length, get_or, drop, Some, None, refl, sym, ap, ◌∙◌, inl, inr}
+use Rattle.std.specs.List.{flat_map}
 use Rattle.std.specs.Option.{option_or}
 use Rattle.std.proofs.lemmas.Bool.{cases_Bool}
 use Rattle.std.proofs.lemmas.Grind.{fold-append}
 use Rattle.std.proofs.lemmas.List.{drop_all}
 use Rattle.ir_model.specs.declared.rule.Place.{Place}
 use Rattle.ir_check.specs.declared.defined.Defined.{Defined}
-use Rattle.ir_check.specs.Definitions.{has_place, with_place, HasRoom, first_again, with_places, HaveRoom}
+use Rattle.ir_check.specs.Definitions.{has_place, with_place, first_again, with_places, HaveRoom}
 use Rattle.ir_check.proofs.FirstPlaces.{rest_at}
 
 -- ---- two lists of places

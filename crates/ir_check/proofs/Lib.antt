@@ -4,3 +4,4 @@ mod LeadLemmas
 mod LimitLemmas
 mod DefinedSteps
 mod DefinedRows
+mod DefinedNames

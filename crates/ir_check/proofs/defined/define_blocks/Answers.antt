@@ -1,4 +1,4 @@
-use Rattle.std.proofs.Common.{rules, sym, [], ◌∷◌}
+use Rattle.std.proofs.Common.{rules, sym}
 use Rattle.ir_rules.specs.Names.{block_definitions}
 use Rattle.ir_check.proofs.DefinedSteps.{next_room, next_again, Continues-more, end_again, Continues-all}
 use Rattle.ir_check.proofs.defined.define_blocks.Goals as goal

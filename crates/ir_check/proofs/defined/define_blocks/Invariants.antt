@@ -1,4 +1,4 @@
-use Rattle.std.proofs.Common.{drop, [], ◌∷◌}
+use Rattle.std.proofs.Common.{drop}
 use Rattle.std.specs.List.{flat_map}
 use Rattle.ir_rules.specs.Names.{block_definitions}
 use Rattle.ir_check.proofs.DefinedSteps.{Continues}

@@ -1,4 +1,4 @@
-use Rattle.std.proofs.Common.{rules, sym, [], ◌∷◌}
+use Rattle.std.proofs.Common.{rules, sym}
 use Rattle.ir_model.specs.declared.function.Instr.{Instr}
 use Rattle.ir_rules.specs.Names.{result_place}
 use Rattle.ir_check.proofs.DefinedSteps.{next_room, next_again, Continues-more, end_again, Continues-all}

@@ -1,4 +1,4 @@
-use Rattle.std.proofs.Common.{drop, [], ◌∷◌}
+use Rattle.std.proofs.Common.{drop}
 use Rattle.std.specs.List.{flat_map}
 use Rattle.ir_model.specs.declared.function.Instr.{Instr}
 use Rattle.ir_rules.specs.Names.{result_place}
