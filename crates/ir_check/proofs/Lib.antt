@@ -5,3 +5,4 @@ mod LimitLemmas
 mod DefinedSteps
 mod DefinedRows
 mod DefinedNames
+mod UndefinedSites
