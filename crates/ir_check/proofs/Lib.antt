@@ -6,3 +6,4 @@ mod DefinedSteps
 mod DefinedRows
 mod DefinedNames
 mod UndefinedSites
+mod UndefinedNames

@@ -4,10 +4,14 @@ use Rattle.std.specs.Prelude.{nat_lt, slice_index_or}
 use Rattle.std.specs.List.{flat_map}
 use Rattle.std.specs.Option.{option_or}
 use Rattle.std.proofs.lemmas.Grind.{flat_map-append}
-use Rattle.std.proofs.lemmas.List.{drop_all}
+use Rattle.std.proofs.lemmas.List.{drop_more, drop_all}
+use Rattle.std.proofs.lemmas.List.Concat.{flat_map_single}
+use Rattle.ir_model.specs.declared.op.Case.{Case}
+use Rattle.ir_model.specs.declared.op.Operand.{Operand}
+use Rattle.ir_model.specs.declared.op.PhiEntry.{PhiEntry}
 use Rattle.ir_model.specs.declared.rule.Place.{Place}
 use Rattle.ir_model.specs.declared.rule.Place.TheVariants.{BlockAt, UseIn}
-use Rattle.ir_model.specs.Sites.{Site, UsesValue, UsesBlock, UsesGlobal}
+use Rattle.ir_model.specs.Sites.{Site, operand_sites, entry_sites, UsesValue, UsesBlock, UsesGlobal}
 use Rattle.ir_check.specs.declared.undefined.Scope.{Scope}
 use Rattle.ir_check.specs.Undefined.{undefined_site, first_at}
 use Rattle.ir_check.proofs.FirstPlaces.{first-append, rest_at}
@@ -24,6 +28,26 @@ unfolding first_at
 at_both scope xs ys =
     let f = undefined_site scope.defined.now scope.globals scope.block scope.own in
     ap (λ places. slice_get places 0) (flat_map-append f xs ys) ∙ first-append (flat_map f xs) (flat_map f ys)
+
+pub at_more : (scope : Scope) (x : Site) (xs : List Site)
+    → first_at scope (x ∷ xs) ≡ option_or (first_at scope (x ∷ [])) (first_at scope xs)
+at_more scope x xs = at_both scope (x ∷ []) xs
+
+at_cases : (scope : Scope) (cases : List Case)
+    → first_at scope (map (λ (c : Case). UsesBlock c.to.0) cases)
+    ≡ first_at scope (flat_map (λ (c : Case). UsesBlock c.to.0 ∷ []) cases)
+at_cases scope cases = ap (first_at scope) (sym (flat_map_single (λ (c : Case). UsesBlock c.to.0) cases))
+
+pub at_switch : (scope : Scope) (value : Operand) (other : ℕ) (cases : List Case)
+    → first_at scope (operand_sites value ++ (UsesBlock other ∷ map (λ (c : Case). UsesBlock c.to.0) cases))
+    ≡ option_or (first_at scope (operand_sites value)) (option_or (first_at scope (UsesBlock other ∷ []))
+    (first_at scope (flat_map (λ (c : Case). UsesBlock c.to.0 ∷ []) cases)))
+at_switch scope value other cases =
+    let sites = map (λ (c : Case). UsesBlock c.to.0) cases in
+    at_both scope (operand_sites value) (UsesBlock other ∷ sites)
+    ∙ ap (option_or (first_at scope (operand_sites value)))
+    (at_more scope (UsesBlock other) sites
+    ∙ ap (option_or (first_at scope (UsesBlock other ∷ []))) (at_cases scope cases))
 
 module _ (scope : Scope) (id : ℕ) where
   pub value_known : slice_index_or scope.defined.now.values id false ≡ true → first_at scope (UsesValue id ∷ []) ≡ None
@@ -71,3 +95,14 @@ module _ {X : Type 0} (f : X → List Site) (xs : List X) (i : ℕ) (scope : Sco
 
   pub at_end : length xs ≤ i → first_at scope (flat_map f (drop i xs)) ≡ None
   at_end past = ap (λ rest. first_at scope (flat_map f rest)) (drop_all i xs past) ∙ at_none scope
+
+-- one entry more, wherever the entry itself is read
+pub at_entry : (scope : Scope) (entries : List PhiEntry) (i : ℕ) (d : PhiEntry) → i < length entries
+    → (first_at scope (entry_sites (get_or entries i d)) ≡ first_at scope (entry_sites (get_or entries i d)))
+    × (first_at scope (flat_map entry_sites (drop i entries))
+    ≡ option_or (first_at scope (entry_sites (get_or entries i d)))
+    (first_at scope (flat_map entry_sites (drop (i + 1) entries))))
+at_entry scope entries i d within =
+    (refl,
+    ap (λ rest. first_at scope (flat_map entry_sites rest)) (drop_more entries i d within)
+    ∙ at_both scope (entry_sites (get_or entries i d)) (flat_map entry_sites (drop (i + 1) entries)))

@@ -61,7 +61,8 @@ fn undefined_in_block(defined: &Defined, globals: u64, block: &Block) -> Option<
 /// The first such use of an operation, in text order.
 #[tactic(auto, using(
     crate::proofs::UndefinedSites::at_none,
-    crate::proofs::UndefinedSites::at_both
+    crate::proofs::UndefinedSites::at_both,
+    crate::proofs::UndefinedSites::at_more
 ))]
 fn undefined_in_op(scope: &Scope<'_>, op: &Op) -> Option<Place>
     ensures { result ≡ first_at scope.now (op_sites op.now) }
@@ -157,16 +158,25 @@ fn in_operands(scope: &Scope<'_>, operands: &[TypedOperand]) -> Option<Place>
 }
 
 /// The first such use of a phi's entries.
+#[tactic(auto, using(crate::proofs::UndefinedSites::at_entry))]
 fn in_entries(scope: &Scope<'_>, entries: &[PhiEntry]) -> Option<Place>
     ensures { result ≡ first_at scope.now (flat_map entry_sites entries.now) }
 {
     for entry in entries {
-        match or_else(operand(scope, &entry.value), target(scope, entry.from)) {
+        match in_entry(scope, entry) {
             Some(place) => return Some(place),
             None => {}
         }
     }
     None
+}
+
+/// The first such use of an entry.
+#[tactic(auto, using(crate::proofs::UndefinedSites::at_both))]
+fn in_entry(scope: &Scope<'_>, entry: &PhiEntry) -> Option<Place>
+    ensures { result ≡ first_at scope.now (entry_sites entry.now) }
+{
+    or_else(operand(scope, &entry.value), target(scope, entry.from))
 }
 
 /// The first such use of a switch's cases.
