@@ -101,9 +101,10 @@ has_room f d (Item i) fits placed = tt
 have_room : (f : Function) (d : Defined) (places : List Place) → Fits f d → All (IsPlaced f) places
     → HaveRoom d places
 have_room f d [] fits all = tt
-have_room f d (at ∷ places) fits all =
-    (has_room f d at fits (All-head (IsPlaced f) at places all),
-    have_room f (with_place d at) places (Fits-more f d at fits) (All-tail (IsPlaced f) at places all))
+have_room f d (at ∷ places) fits all = (
+  has_room f d at fits (All-head (IsPlaced f) at places all),
+  have_room f (with_place d at) places (Fits-more f d at fits) (All-tail (IsPlaced f) at places all),
+)
 
 pub ids_have_room : (f : Function) → HasIds f
     → HaveRoom (none (length f.values) (length f.labels)) (definitions f)
@@ -139,7 +140,8 @@ module _ (v : ℕ) where
   value_of_params [] = refl
   value_of_params (p ∷ ps) = rw (same_turned v p.value.0, value_of_params ps) refl
 
-  value_of_result : (given : Option ValueId) → list_any is_value (result_place given) ≡ list_any is_one (result_of given)
+  value_of_result : (given : Option ValueId)
+      → list_any is_value (result_place given) ≡ list_any is_one (result_of given)
   value_of_result None = refl
   value_of_result (Some w) = rw (same_turned v w.0) refl
 

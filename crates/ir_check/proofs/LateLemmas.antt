@@ -1,6 +1,5 @@
 -- The phis behind other instructions, one instruction at a time.
-use Rattle.std.proofs.Common.{◌≡◌, Bool, true, false, ◌||◌, not, List, [], ◌∷◌, ◌++◌, refl, arith, ap}
-use Rattle.std.proofs.lemmas.Grind.{common_steps}
+use Rattle.std.proofs.Common.{◌≡◌, Bool, true, false, List, ◌∷◌}
 use Rattle.ir_model.specs.declared.function.Instr.{Instr}
 use Rattle.ir_model.specs.Shapes.{is_phi}
 use Rattle.ir_rules.specs.Blocks.{late}
@@ -15,3 +14,5 @@ module _ (instr : Instr) (instrs : List Instr) where
 
   pub late_found : is_phi instr.op ≡ true → late true (instr ∷ instrs) ≡ instr ∷ late true instrs
   late_found is = simp is
+
+pub ruleset late_steps = (late_other, late_first, late_found)

@@ -1,5 +1,5 @@
 -- Whether something leads to a block: tests of lists that are made of lists.
-use Rattle.std.proofs.Common.{◌≡◌, ℕ, Bool, true, false, ◌||◌, List, [], ◌∷◌, ◌++◌, map, refl, sym, ap, ◌∙◌}
+use Rattle.std.proofs.Common.{◌≡◌, ℕ, Bool, ◌||◌, List, [], ◌∷◌, map, refl, ap, ◌∙◌}
 use Rattle.std.specs.List.{flat_map, list_any}
 use Rattle.std.proofs.lemmas.List.Folds.{list_any-append}
 use Rattle.ir_model.specs.declared.function.Instr.{Instr}
@@ -18,7 +18,8 @@ pub is_target_leads_to : (blocks : List Block) (b : ℕ)
 is_target_leads_to [] b = refl
 is_target_leads_to (block ∷ blocks) b =
     let leads : Spot → Bool = λ spot. op_leads_to spot.instr.op b in
+    let here = list_any (λ (instr : Instr). op_leads_to instr.op b) block.instrs in
     list_any-append leads (block_spots block) (flat_map block_spots blocks)
     ∙ ap (λ here. here || list_any leads (flat_map block_spots blocks))
     (any_of_map leads (λ (instr : Instr). record { block = block.id.0; instr = instr }) block.instrs)
-    ∙ ap (λ rest. list_any (λ (instr : Instr). op_leads_to instr.op b) block.instrs || rest) (is_target_leads_to blocks b)
+    ∙ ap (λ rest. here || rest) (is_target_leads_to blocks b)

@@ -62,3 +62,7 @@ module _ (n before : ℕ) (block : Block) (more : List Block) where
   block_behind below none =
       in_block below
       ∙ ap (λ first. option_or first (slice_get (past (n + 1) (before + length block.instrs) more) 0)) none
+
+pub ruleset instr_steps = (past_found, past_behind)
+
+pub ruleset block_steps = (small_behind, many_blocks, block_found, block_behind)

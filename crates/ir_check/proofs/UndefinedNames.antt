@@ -32,8 +32,9 @@ module _ (d : Defined) (globals : ℕ) (f : Function) (signatures : Signatures) 
       ≡ flat_map (undefined_site d globals (record { 0 = spot.block }) (place spot)) sites
   same_sites spot [] = refl
   same_sites spot (site ∷ sites) =
-      ap (λ here. here ++ flat_map (undefined_at signatures f spot) sites) (same_site spot site)
-      ∙ ap (λ rest. undefined_site d globals (record { 0 = spot.block }) (place spot) site ++ rest) (same_sites spot sites)
+      let here = undefined_site d globals (record { 0 = spot.block }) (place spot) site in
+      ap (λ places. places ++ flat_map (undefined_at signatures f spot) sites) (same_site spot site)
+      ∙ ap (λ rest. here ++ rest) (same_sites spot sites)
 
   abbrev at_spot : Spot → List Place
   at_spot spot = flat_map (undefined_at signatures f spot) (op_sites spot.instr.op)

@@ -1,5 +1,5 @@
 -- The first place of some sites at which what is named isn't defined.
-use Rattle.std.proofs.Common.{◌≡◌, ℕ, ◌+◌, ◌<◌, ◌≤◌, Bool, true, false, List, [], ◌∷◌, ◌++◌, map, length, get_or, drop, Option, Some, None, slice_get, refl, sym, ap, ◌∙◌}
+use Rattle.std.proofs.Common.{◌≡◌, ℕ, ◌+◌, ◌<◌, ◌≤◌, true, false, List, [], ◌∷◌, ◌++◌, map, length, get_or, drop, Some, None, slice_get, refl, sym, ap, ◌∙◌}
 use Rattle.std.specs.Prelude.{nat_lt, slice_index_or}
 use Rattle.std.specs.List.{flat_map}
 use Rattle.std.specs.Option.{option_or}
@@ -76,6 +76,12 @@ module _ (scope : Scope) (id : ℕ) where
   unfolding first_at
   global_unknown is = simp is
 
+pub ruleset site_lists = (at_none, at_both, at_more)
+
+pub ruleset operand_steps = (at_none, value_known, value_unknown, global_known, global_unknown)
+
+pub ruleset target_steps = (block_known, block_unknown)
+
 -- ---- a walk of a list
 
 module _ {X : Type 0} (f : X → List Site) (xs : List X) (i : ℕ) (scope : Scope) where
@@ -102,7 +108,8 @@ pub at_entry : (scope : Scope) (entries : List PhiEntry) (i : ℕ) (d : PhiEntry
     × (first_at scope (flat_map entry_sites (drop i entries))
     ≡ option_or (first_at scope (entry_sites (get_or entries i d)))
     (first_at scope (flat_map entry_sites (drop (i + 1) entries))))
-at_entry scope entries i d within =
-    (refl,
-    ap (λ rest. first_at scope (flat_map entry_sites rest)) (drop_more entries i d within)
-    ∙ at_both scope (entry_sites (get_or entries i d)) (flat_map entry_sites (drop (i + 1) entries)))
+at_entry scope entries i d within = (
+  refl,
+  ap (λ rest. first_at scope (flat_map entry_sites rest)) (drop_more entries i d within)
+      ∙ at_both scope (entry_sites (get_or entries i d)) (flat_map entry_sites (drop (i + 1) entries)),
+)

@@ -1,5 +1,5 @@
 -- The places at which what is named isn't defined, as the rows of what is defined have it.
-use Rattle.std.specs.Prelude.{ℕ, Bool, false, List, [], ◌∷◌, Option, flat_map, nat_lt, slice_get, slice_index_or}
+use Rattle.std.specs.Prelude.{ℕ, false, List, [], Option, flat_map, nat_lt, slice_get, slice_index_or}
 use Rattle.scev_base.specs.declared.ids.BlockId.{BlockId}
 use Rattle.ir_model.specs.declared.function.Instr.{Instr}
 use Rattle.ir_model.specs.declared.function.Block.{Block}

@@ -4,7 +4,6 @@ ghost use Rattle.std.specs.Prelude.{◌≡◌, ◌==◌, slice_get};
 ghost use Rattle.std.specs.List.{list_any};
 ghost use Rattle.ir_model.specs.declared.op.Case.{Case};
 ghost use Rattle.ir_model.specs.declared.function.Instr.{Instr};
-ghost use Rattle.ir_rules.specs.Spots.{named_by};
 ghost use Rattle.ir_rules.specs.Blocks as blocks;
 ghost use Rattle.ir_model.specs.Shapes as shapes;
 ghost use Rattle.ir_check.specs.Instrs.{op_leads_to, leads_to, late_places};
@@ -40,7 +39,9 @@ fn entry_of(blocks: &[Block]) -> BlockId
 fn any_leads_to(blocks: &[Block], b: BlockId) -> bool
     ensures { result ≡ leads_to blocks.now b.0 }
 {
-    blocks.iter().any(|block| some_leads_to(block.instrs.as_slice(), b))
+    blocks
+        .iter()
+        .any(|block| some_leads_to(block.instrs.as_slice(), b))
 }
 
 /// Whether one of some instructions leads to a block.
@@ -58,9 +59,7 @@ fn op_leads_to(op: &Op, b: BlockId) -> bool
     match op {
         Op::Jump { to } => to.0 == b.0,
         Op::Branch { yes, no, .. } => yes.0 == b.0 || no.0 == b.0,
-        Op::Switch { other, cases, .. } => {
-            other.0 == b.0 || case_leads_to(cases.as_slice(), b)
-        }
+        Op::Switch { other, cases, .. } => { other.0 == b.0 || case_leads_to(cases.as_slice(), b) }
         _ => false,
     }
 }
@@ -86,12 +85,7 @@ pub(crate) fn late_phi(f: &Function) -> Option<Place>
 }
 
 /// The first phi of a list behind another instruction of it.
-#[tactic(auto, using(
-    crate::proofs::FirstPlaces::rest_at,
-    crate::proofs::LateLemmas::late_other,
-    crate::proofs::LateLemmas::late_first,
-    crate::proofs::LateLemmas::late_found
-))]
+#[tactic(auto, using(crate::proofs::FirstPlaces::rest_at, crate::proofs::LateLemmas::late_steps))]
 fn late_in(b: BlockId, instrs: &[Instr]) -> Option<Place>
     ensures { result ≡ slice_get (late_places b.0 instrs.now) 0 }
 {

@@ -21,13 +21,7 @@ const BLOCKS: usize = 1024;
 const INSTRS: usize = 8192;
 
 /// The first block or instruction of a function that is past a limit.
-#[tactic(auto, using(
-    crate::proofs::FirstPlaces::rest_at,
-    crate::proofs::LimitLemmas::small_behind,
-    crate::proofs::LimitLemmas::many_blocks,
-    crate::proofs::LimitLemmas::block_found,
-    crate::proofs::LimitLemmas::block_behind
-))]
+#[tactic(auto, using(crate::proofs::FirstPlaces::rest_at, crate::proofs::LimitLemmas::block_steps))]
 pub(crate) fn past_limit(f: &Function) -> Option<Place>
     ensures { result ≡ slice_get (limits.past_limits f.now) 0 }
 {
@@ -46,11 +40,7 @@ pub(crate) fn past_limit(f: &Function) -> Option<Place>
 }
 
 /// The first instruction of a block that is past a limit, where so many stand before the block.
-#[tactic(auto, using(
-    crate::proofs::FirstPlaces::rest_at,
-    crate::proofs::LimitLemmas::past_found,
-    crate::proofs::LimitLemmas::past_behind
-))]
+#[tactic(auto, using(crate::proofs::FirstPlaces::rest_at, crate::proofs::LimitLemmas::instr_steps))]
 fn past_in(b: BlockId, before: usize, instrs: &[Instr]) -> Option<Place>
     requires { before ≤ 8192 }
     ensures { result ≡ slice_get (limits.instrs_past b.0 before instrs.now) 0 }

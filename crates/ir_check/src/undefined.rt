@@ -59,11 +59,7 @@ fn undefined_in_block(defined: &Defined, globals: u64, block: &Block) -> Option<
 }
 
 /// The first such use of an operation, in text order.
-#[tactic(auto, using(
-    crate::proofs::UndefinedSites::at_none,
-    crate::proofs::UndefinedSites::at_both,
-    crate::proofs::UndefinedSites::at_more
-))]
+#[tactic(auto, using(crate::proofs::UndefinedSites::site_lists))]
 fn undefined_in_op(scope: &Scope<'_>, op: &Op) -> Option<Place>
     ensures { result ≡ first_at scope.now (op_sites op.now) }
 {
@@ -88,7 +84,12 @@ fn undefined_in_op(scope: &Scope<'_>, op: &Op) -> Option<Place>
             operand(scope, cond),
             or_else(target(scope, *yes), target(scope, *no)),
         ),
-        Op::Switch { value, other, cases, .. } => or_else(
+        Op::Switch {
+            value,
+            other,
+            cases,
+            ..
+        } => or_else(
             operand(scope, value),
             or_else(target(scope, *other), in_cases(scope, cases.as_slice())),
         ),
@@ -108,13 +109,7 @@ fn or_else(first: Option<Place>, second: Option<Place>) -> Option<Place>
 }
 
 /// The place of an operand that isn't defined.
-#[tactic(auto, using(
-    crate::proofs::UndefinedSites::at_none,
-    crate::proofs::UndefinedSites::value_known,
-    crate::proofs::UndefinedSites::value_unknown,
-    crate::proofs::UndefinedSites::global_known,
-    crate::proofs::UndefinedSites::global_unknown
-))]
+#[tactic(auto, using(crate::proofs::UndefinedSites::operand_steps))]
 fn operand(scope: &Scope<'_>, value: &Operand) -> Option<Place>
     ensures { result ≡ first_at scope.now (operand_sites value.now) }
 {
@@ -127,21 +122,26 @@ fn operand(scope: &Scope<'_>, value: &Operand) -> Option<Place>
             }
         }
         Operand::Global(g) => {
-            if *g < scope.globals { None } else { Some(scope.own) }
+            if *g < scope.globals {
+                None
+            } else {
+                Some(scope.own)
+            }
         }
         Operand::Num(_) | Operand::Null | Operand::Undef | Operand::Poison => None,
     }
 }
 
 /// The place of a target that isn't defined.
-#[tactic(auto, using(
-    crate::proofs::UndefinedSites::block_known,
-    crate::proofs::UndefinedSites::block_unknown
-))]
+#[tactic(auto, using(crate::proofs::UndefinedSites::target_steps))]
 fn target(scope: &Scope<'_>, b: BlockId) -> Option<Place>
     ensures { result ≡ first_at scope.now (UsesBlock b.0 ∷ []) }
 {
-    if scope.defined.has_block(b) { None } else { Some(Place::BlockAt(b)) }
+    if scope.defined.has_block(b) {
+        None
+    } else {
+        Some(Place::BlockAt(b))
+    }
 }
 
 /// The first such use of operands.

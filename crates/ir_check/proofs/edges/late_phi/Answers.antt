@@ -1,4 +1,4 @@
-use Rattle.std.proofs.Common.{rules, ◌≡◌, length, sym, ap, ◌∙◌, arith}
+use Rattle.std.proofs.Common.{rules, sym, ◌∙◌}
 use Rattle.ir_model.specs.declared.function.Block.{Block}
 use Rattle.ir_check.specs.Instrs.{late_places}
 use Rattle.ir_check.proofs.FirstPlaces.{first_found, first_behind}

@@ -1,4 +1,4 @@
-use Rattle.std.proofs.Common.{rules, ◌≡◌, Some, None, slice_get, sym, ap, ◌∙◌}
+use Rattle.std.proofs.Common.{rules, slice_get, sym, ap, ◌∙◌}
 use Rattle.ir_check.specs.Undefined.{undefined_block}
 use Rattle.ir_check.proofs.FirstPlaces.{first_found, first_behind, first_past}
 use Rattle.ir_check.proofs.UndefinedNames.{same_undefined}

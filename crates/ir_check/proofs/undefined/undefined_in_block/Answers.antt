@@ -1,4 +1,4 @@
-use Rattle.std.proofs.Common.{rules, ◌≡◌, Some, None, slice_get, sym, ap, ◌∙◌}
+use Rattle.std.proofs.Common.{rules, sym, ◌∙◌}
 use Rattle.ir_check.specs.Undefined.{undefined_instr, first_at}
 use Rattle.ir_check.proofs.FirstPlaces.{first_found, first_behind}
 use Rattle.ir_check.proofs.undefined.undefined_in_block.Goals as goal

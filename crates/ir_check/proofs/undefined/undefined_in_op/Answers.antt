@@ -12,7 +12,7 @@ returns-in-Switch c =
     let scope = c.args.scope.now in
     let s = c.in-Switch in
     let whole : first_at scope (op_sites c.args.op.now)
-        ≡ option_or (first_at scope (operand_sites s.value)) (option_or (first_at scope (UsesBlock s.other.0 ∷ []))
-        (first_at scope (flat_map (λ (c : Case). UsesBlock c.to.0 ∷ []) s.cases))) =
+    ≡ option_or (first_at scope (operand_sites s.value)) (option_or (first_at scope (UsesBlock s.other.0 ∷ []))
+    (first_at scope (flat_map (λ (c : Case). UsesBlock c.to.0 ∷ []) s.cases))) =
     rw s.is (at_switch scope s.value s.other.0 s.cases) in
     search rules
