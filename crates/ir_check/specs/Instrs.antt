@@ -1,5 +1,5 @@
 -- What is looked at in one instruction after another.
-use Rattle.std.specs.Prelude.{ℕ, ◌+◌, ◌==◌, min, Bool, false, not, List, [], ◌∷◌, map, filter}
+use Rattle.std.specs.Prelude.{ℕ, ◌+◌, ◌==◌, min, Bool, false, not, List, map, filter}
 use Rattle.std.specs.List.{list_any}
 use Rattle.ir_model.specs.declared.op.Op.{Op}
 use Rattle.ir_model.specs.declared.function.Instr.{Instr}
@@ -11,7 +11,7 @@ use Rattle.ir_model.specs.declared.rule.Rule.TheVariants.{TypeMismatch, LiteralO
 use Rattle.ir_model.specs.declared.rule.Place.{Place}
 use Rattle.ir_model.specs.Defined.{given_type}
 use Rattle.ir_model.specs.Shapes.{is_void, targets}
-use Rattle.ir_rules.specs.Spots.{Spot, block_spots, spots, place, named_by}
+use Rattle.ir_rules.specs.Spots.{Spot, spots, place, named_by}
 use Rattle.ir_rules.specs.Types.{types_fit, literals_fit, widths_fit}
 use Rattle.ir_rules.specs.Values.{is_void_value, cases_differ, misuses_pointer, call_fits, returns}
 use Rattle.ir_rules.specs.Limits.{array_limit}
