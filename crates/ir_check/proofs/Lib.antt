@@ -2,3 +2,4 @@ mod Positions
 mod Names
 mod Pairs
 mod PartRows
+mod ItemWalks
