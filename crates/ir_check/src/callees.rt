@@ -1,8 +1,10 @@
 //! The functions of a module by their names.
 
-ghost use Rattle.std.specs.Prelude.{◌≡◌, IfOk};
-ghost use Rattle.std.specs.Option.{option_copied};
+ghost use Rattle.std.specs.Prelude.{◌≡◌, ℕ, List, Some, None, if◌then◌else◌, IfOk, OnOk};
+ghost use Rattle.std.specs.Option.{option_copied, option_or};
+ghost use Rattle.std.specs.Str.{bytes_eq};
 ghost use Rattle.ir_rules.specs.Values as values;
+ghost use Rattle.ir_check.specs.Firsts.{place_in};
 
 use indexmap::IndexMap;
 use ir_model::{Signature, Signatures};
@@ -18,10 +20,13 @@ pub struct Callees<'a> {
 
 impl<'a> Model for Callees<'a> {
     ghost use Rattle.ir_model.specs.declared.signature.Signatures.{Signatures};
+    ghost use Rattle.ir_check.specs.Firsts.{AreFirstPlaces};
 
     ghost Value = { Signatures };
 
     ghost view = { λ c. c.signatures.now };
+
+    ghost invariant = { λ c. AreFirstPlaces c.places c.signatures.now.functions };
 }
 
 impl<'a> Callees<'a> {
@@ -53,7 +58,10 @@ impl<'a> Callees<'a> {
 }
 
 /// Notes the place of a name that has none yet.
-fn note<'a>(places: &mut IndexMap<&'a [u8], usize>, name: &'a [u8], at: usize) -> Result<(), AllocError> {
+fn note<'a>(places: &mut IndexMap<&'a [u8], usize>, name: &'a [u8], at: usize) -> Result<(), AllocError>
+    ensures { OnOk result ((q : List ℕ) → place_in places.new q
+        ≡ option_or (place_in places.old q) (if bytes_eq name.now q then Some at else None)) }
+{
     if places.get(name).is_none() {
         places.insert(name, at)?;
     }

@@ -1,17 +1,22 @@
 //! What stands outside functions.
 
-ghost use Rattle.std.specs.Prelude.{◌≡◌, Some, None, Err, slice_get, OnOk, IfOk};
+ghost use Rattle.std.specs.Prelude.{◌≡◌, ◌&&◌, Some, None, Err, slice_get, OnOk, IfOk};
+ghost use Rattle.std.specs.List.{list_all};
+ghost use Rattle.std.specs.Option.{option_copied};
+ghost use Rattle.ir_model.specs.declared.item.DeclaredParam.{DeclaredParam};
 ghost use Rattle.ir_model.specs.declared.rule.Rule.{Rule};
 ghost use Rattle.ir_model.specs.declared.rule.Place.{Place};
 ghost use Rattle.ir_rules.specs.Items as rules;
 ghost use Rattle.ir_rules.specs.Rules.{items_broken, first_item_broken};
+ghost use Rattle.ir_rules.specs.Types as types;
+ghost use Rattle.ir_check.specs.Items.{breaks_item, duplicates};
 
 use crate::ill::Ill;
 use crate::initialisers::{init_fits, init_in_range};
 use crate::limits::is_within;
 use crate::widths::{is_whole, is_wide};
 use indexmap::IndexSet;
-use ir_model::{Declare, Global_, Item, Module, Place, Rule};
+use ir_model::{Declare, DeclaredParam, Global_, Item, Module, Place, Rule};
 use std::alloc::{AllocError, Global};
 
 /// The rules of items, in the order in which they are looked at.
@@ -36,15 +41,19 @@ pub fn check_module(alloc: Global, m: &Module) -> Result<(), Ill>
         → first_item_broken m.now ≡ Some (rule, place) }
 {
     for rule in ITEM_RULES {
-        if let Some(place) = first_item(alloc, rule, m.items.as_slice())? {
-            return Err(Ill::Broken { rule, place });
+        match first_item(alloc, rule, m)? {
+            Some(place) => return Err(Ill::Broken { rule, place }),
+            None => {}
         }
     }
     Ok(())
 }
 
 /// The first item that breaks a rule.
-fn first_item(alloc: Global, rule: Rule, items: &[Item]) -> Result<Option<Place>, AllocError> {
+fn first_item(alloc: Global, rule: Rule, m: &Module) -> Result<Option<Place>, AllocError>
+    ensures { IfOk result (λ found. found ≡ slice_get (items_broken m.now rule) 0) }
+{
+    let items = m.items.as_slice();
     match rule {
         Rule::DuplicateName => duplicate_item(alloc, items),
         Rule::Limit => Ok(item_past(items)),
@@ -53,21 +62,28 @@ fn first_item(alloc: Global, rule: Rule, items: &[Item]) -> Result<Option<Place>
 }
 
 /// The first item whose name an item before it has.
-fn duplicate_item(alloc: Global, items: &[Item]) -> Result<Option<Place>, AllocError> {
+fn duplicate_item(alloc: Global, items: &[Item]) -> Result<Option<Place>, AllocError>
+    ensures { IfOk result (λ found. found ≡ slice_get (duplicates items.now) 0) }
+{
     let mut names: IndexSet<&[u8]> = IndexSet::new(alloc);
     for (at, item) in items.iter().enumerate() {
-        if let Some(name) = name_of(item) {
-            let (_, is_new) = names.insert_full(name)?;
-            if !is_new {
-                return Ok(Some(Place::Item(at as u64)));
+        match name_of(item) {
+            Some(name) => {
+                let (_, is_new) = names.insert_full(name)?;
+                if !is_new {
+                    return Ok(Some(Place::Item(at as u64)));
+                }
             }
+            None => {}
         }
     }
     Ok(None)
 }
 
 /// The name of an item.
-fn name_of(item: &Item) -> Option<&[u8]> {
+fn name_of(item: &Item) -> Option<&[u8]>
+    ensures { option_copied result ≡ rules.name_of item.now }
+{
     match item {
         Item::PassedOn(_) => None,
         Item::Global(global) => Some(global.name.as_slice()),
@@ -77,7 +93,9 @@ fn name_of(item: &Item) -> Option<&[u8]> {
 }
 
 /// The first item that breaks a rule by itself.
-fn breaking_item(rule: Rule, items: &[Item]) -> Option<Place> {
+fn breaking_item(rule: Rule, items: &[Item]) -> Option<Place>
+    ensures { result ≡ slice_get (rules.items_where (breaks_item rule) 0 items.now) 0 }
+{
     for (at, item) in items.iter().enumerate() {
         if is_breaking(rule, item) {
             return Some(Place::Item(at as u64));
@@ -87,7 +105,9 @@ fn breaking_item(rule: Rule, items: &[Item]) -> Option<Place> {
 }
 
 /// Whether an item breaks a rule by itself.
-fn is_breaking(rule: Rule, item: &Item) -> bool {
+fn is_breaking(rule: Rule, item: &Item) -> bool
+    ensures { result ≡ breaks_item rule item.now }
+{
     match rule {
         Rule::TypeMismatch => is_mistyped(item),
         Rule::LiteralOutOfRange => is_out_of_range(item),
@@ -128,8 +148,18 @@ fn has_bad_width(item: &Item) -> bool
 }
 
 /// Whether the types of a declaration have 1 to 64 bits.
-fn has_wide_types(declare: &Declare) -> bool {
-    is_wide(&declare.ret) && declare.params.as_slice().iter().all(|param| is_wide(&param.kind))
+fn has_wide_types(declare: &Declare) -> bool
+    ensures { result ≡ (types.is_wide declare.now.ret
+        && list_all (λ (p : DeclaredParam). types.is_wide p.kind) declare.now.params) }
+{
+    is_wide(&declare.ret) && are_wide(declare.params.as_slice())
+}
+
+/// Whether the types of parameters have 1 to 64 bits.
+fn are_wide(params: &[DeclaredParam]) -> bool
+    ensures { result ≡ list_all (λ (p : DeclaredParam). types.is_wide p.kind) params.now }
+{
+    params.iter().all(|param| is_wide(&param.kind))
 }
 
 /// The first item that is past a limit.
