@@ -26,7 +26,7 @@ pub(crate) fn entry_target(f: &Function) -> Option<Place>
 }
 
 /// The number of the first block.
-fn entry_of(blocks: &[Block]) -> BlockId
+pub(crate) fn entry_of(blocks: &[Block]) -> BlockId
     ensures { result.0 ≡ shapes.entry blocks.now }
 {
     match blocks.first() {

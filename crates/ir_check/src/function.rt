@@ -115,7 +115,7 @@ fn bad_width(alloc: Global, callees: &Callees<'_>, f: &Function) -> Result<Optio
     ensures { IfOk result (λ found. found ≡ slice_get (bad_widths f.now) 0) }
 {
     if !is_wide(&f.ret) {
-        return Ok(Some(Place::BlockAt(entry_of(f))));
+        return Ok(Some(Place::BlockAt(entry_of(f.blocks.as_slice()))));
     }
     match bad_param(f.params.as_slice()) {
         Some(place) => Ok(Some(place)),
