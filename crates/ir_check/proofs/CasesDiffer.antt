@@ -42,11 +42,13 @@ repeated_more before [] x = go (list_any (λ n. x == n) before) refl
 repeated_more before (y ∷ xs) x = go (list_any (λ n. y == n) before) refl (repeated_more (y ∷ before) xs x)
   where
     go : (b : Bool) → list_any (λ n. y == n) before ≡ b
-        → apart (y ∷ before) (xs ++ x ∷ []) ≡ (apart (y ∷ before) xs && not (((x == y) || list_any (λ n. x == n) before) || list_any (λ n. x == n) xs))
+        → apart (y ∷ before) (xs ++ x ∷ [])
+        ≡ (apart (y ∷ before) xs && not (((x == y) || list_any (λ n. x == n) before) || list_any (λ n. x == n) xs))
         → apart before (y ∷ xs ++ x ∷ [])
         ≡ (apart before (y ∷ xs) && not (list_any (λ n. x == n) before || ((x == y) || list_any (λ n. x == n) xs)))
     go true e rest = rw e refl
-    go false e rest = rw e (rest ∙ moved (apart (y ∷ before) xs) (x == y) (list_any (λ n. x == n) before) (list_any (λ n. x == n) xs))
+    go false e rest = rw e (rest
+        ∙ moved (apart (y ∷ before) xs) (x == y) (list_any (λ n. x == n) before) (list_any (λ n. x == n) xs))
 
 -- numbers behind a repeated one
 repeated_behind : (before xs ys : List ℕ) → apart before xs ≡ false → apart before (xs ++ ys) ≡ false
@@ -102,7 +104,8 @@ all_one one fit (suc k) d below = absurd (omega arith)
 pub seen_none : (w : ℕ) → AreSeen w [] []
 seen_none w = record { held = refl; fit = λ k d below. absurd (omega (arith, below)); apart = refl }
 
-pub seen_more : (w : ℕ) (cases : List Case) (keys : List ℕ) (one : Case) (bits : ℕ) → AreSeen w cases keys → Fit one
+pub seen_more : (w : ℕ) (cases : List Case) (keys : List ℕ) (one : Case) (bits : ℕ)
+    → AreSeen w cases keys → Fit one
     → bits ≡ residue (min w 128) one.number
     → list_any (λ n. bits == n) keys ≡ false
     → AreSeen w (cases ++ one ∷ []) (keys ++ bits ∷ [])
@@ -112,7 +115,8 @@ seen_more w cases keys one bits seen fit is new = record {
   apart = differ_more w cases one seen.fit fit seen.apart ∙ ap not (rw (is, seen.held) at new);
 }
 
-pub seen_twice : (w : ℕ) (cases more : List Case) (keys : List ℕ) (one : Case) (bits : ℕ) → AreSeen w cases keys → Fit one
+pub seen_twice : (w : ℕ) (cases more : List Case) (keys : List ℕ) (one : Case) (bits : ℕ)
+    → AreSeen w cases keys → Fit one
     → bits ≡ residue (min w 128) one.number
     → list_any (λ n. bits == n) keys ≡ true
     → differ_at w ((cases ++ one ∷ []) ++ more) ≡ false

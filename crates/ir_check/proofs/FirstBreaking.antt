@@ -20,7 +20,8 @@ spots_in b instrs = map (λ (instr : Instr). record { block = b; instr = instr }
 abbrev pub first_of : Signatures → Function → Rule → ℕ → List Instr → Option Place
 first_of signatures f rule b instrs = slice_get (breaking_spots signatures f rule (spots_in b instrs)) 0
 
-pub first_behind : (signatures : Signatures) (f : Function) (rule : Rule) (b : ℕ) (instrs : List Instr) (i : ℕ) (instr : Instr)
+pub first_behind : (signatures : Signatures) (f : Function) (rule : Rule) (b : ℕ) (instrs : List Instr)
+    (i : ℕ) (instr : Instr)
     → slice_get instrs i ≡ Some instr → breaks signatures f rule instr ≡ false
     → first_of signatures f rule b (drop i instrs) ≡ first_of signatures f rule b (drop (suc i) instrs)
 first_behind signatures f rule b [] i instr is keeps = absurd (none-some _ is)
@@ -29,7 +30,8 @@ first_behind signatures f rule b (first ∷ instrs) zero instr is keeps =
 first_behind signatures f rule b (first ∷ instrs) (suc i) instr is keeps =
     first_behind signatures f rule b instrs i instr is keeps
 
-pub first_here : (signatures : Signatures) (f : Function) (rule : Rule) (b : ℕ) (instrs : List Instr) (i : ℕ) (instr : Instr)
+pub first_here : (signatures : Signatures) (f : Function) (rule : Rule) (b : ℕ) (instrs : List Instr)
+    (i : ℕ) (instr : Instr)
     → slice_get instrs i ≡ Some instr → breaks signatures f rule instr ≡ true
     → first_of signatures f rule b (drop i instrs) ≡ Some (named_by b instr.result)
 first_here signatures f rule b [] i instr is broken = absurd (none-some _ is)
@@ -70,7 +72,8 @@ block_behind signatures f rule (first ∷ blocks) zero block is none =
 block_behind signatures f rule (first ∷ blocks) (suc i) block is none =
     block_behind signatures f rule blocks i block is none
 
-pub block_here : (signatures : Signatures) (f : Function) (rule : Rule) (blocks : List Block) (i : ℕ) (block : Block) (place : Place)
+pub block_here : (signatures : Signatures) (f : Function) (rule : Rule) (blocks : List Block) (i : ℕ)
+    (block : Block) (place : Place)
     → slice_get blocks i ≡ Some block
     → slice_get (breaking_spots signatures f rule (block_spots block)) 0 ≡ Some place
     → first_in signatures f rule (drop i blocks) ≡ Some place
