@@ -1,23 +1,25 @@
 //! Entries of phis, which are the edges into their blocks.
 
 ghost use Rattle.std.specs.Prelude.{◌≡◌, slice_get, IfOk};
+ghost use Rattle.ir_model.specs.WellMade.{HasIds};
 ghost use Rattle.ir_rules.specs.Blocks as blocks;
 
-use crate::cases::low_bits;
+use crate::cases::same_number;
 use crate::instrs::place_of;
-use crate::sources::sources;
+use flow_graph::Edges;
 use indexmap::IndexMap;
 use ir_model::{Block, Function, IrType, Op, Operand, PhiEntry, Place};
-use sqlite_items::Items;
+use scev_base::BlockId;
 use std::alloc::{AllocError, Global};
 
 /// The first phi whose entries aren't those of its block's edges.
 pub(crate) fn bad_entries(alloc: Global, f: &Function) -> Result<Option<Place>, AllocError>
+    requires ids { HasIds f.now }
     ensures { IfOk result (λ found. found ≡ slice_get (blocks.bad_entries f.now) 0) }
 {
-    let rows = sources(alloc, f)?;
+    let edges = Edges::new(alloc, f)?;
     for block in f.blocks.as_slice() {
-        match bad_in_block(alloc, &rows, block)? {
+        match bad_in_block(alloc, &edges, block)? {
             Some(place) => return Ok(Some(place)),
             None => {}
         }
@@ -26,8 +28,8 @@ pub(crate) fn bad_entries(alloc: Global, f: &Function) -> Result<Option<Place>, 
 }
 
 /// The first such phi of a block.
-fn bad_in_block(alloc: Global, rows: &[Items<u64>], block: &Block) -> Result<Option<Place>, AllocError> {
-    let sources = sorted(alloc, rows[block.id.0 as usize].as_slice())?;
+fn bad_in_block(alloc: Global, edges: &Edges, block: &Block) -> Result<Option<Place>, AllocError> {
+    let sources = sorted(alloc, edges.preds(block.id))?;
     for instr in block.instrs.as_slice() {
         if let Op::Phi { kind, entries } = &instr.op {
             if !entries_fit(alloc, kind, entries.as_slice(), &sources)? {
@@ -38,9 +40,12 @@ fn bad_in_block(alloc: Global, rows: &[Items<u64>], block: &Block) -> Result<Opt
     Ok(None)
 }
 
-/// Numbers in order.
-fn sorted(alloc: Global, numbers: &[u64]) -> Result<Vec<u64>, AllocError> {
-    let mut sorted = Vec::from_slice(alloc, numbers)?;
+/// The numbers of blocks, in order.
+fn sorted(alloc: Global, blocks: &[BlockId]) -> Result<Vec<u64>, AllocError> {
+    let mut sorted = Vec::new(alloc);
+    for block in blocks {
+        sorted.push(block.0)?;
+    }
     sorted.sort_unstable();
     Ok(sorted)
 }
@@ -84,7 +89,7 @@ fn same_operand(kind: &IrType, left: &Operand, right: &Operand) -> bool
 {
     match (left, right) {
         (Operand::Reg(v), Operand::Reg(w)) => v.0 == w.0,
-        (Operand::Num(m), Operand::Num(n)) => low_bits(kind, *m) == low_bits(kind, *n),
+        (Operand::Num(m), Operand::Num(n)) => same_number(kind, *m, *n),
         (Operand::Global(g), Operand::Global(h)) => g == h,
         (Operand::Null, Operand::Null)
         | (Operand::Undef, Operand::Undef)

@@ -21,7 +21,6 @@ mod widths;
 // Blocks and phis.
 mod edges;
 mod entries;
-mod sources;
 
 // Single operations.
 mod calls;
