@@ -1,5 +1,5 @@
 -- A function's lists of edges have its edges.
-use Rattle.std.proofs.Common.{◌≡◌, ◌≢◌, ◌↔◌, ◌==◌, ℕ, zero, suc, ◌<◌, Bool, true, false, List, [], ◌∷◌, ◌++◌, length, get_or, map, flat_map, filter, find, Some, All, AllPairs, Contains, eqb-true, refl, sym, ap, ◌∙◌, subst, inl, inr, arith}
+use Rattle.std.proofs.Common.{◌≡◌, ◌≢◌, ◌↔◌, ◌==◌, ℕ, zero, suc, ◌<◌, Bool, true, List, [], ◌∷◌, length, get_or, map, flat_map, filter, find, Some, AllPairs, Contains, eqb-true, refl, sym, ap, ◌∙◌, subst, inl, inr, arith}
 use Rattle.std.proofs.Math.ListN.{get_or-map as map_at}
 use Rattle.std.proofs.lemmas.Bool.{cases_Bool, eq-eqb}
 use Rattle.std.proofs.lemmas.List.{get_or_default, length-map}
@@ -10,7 +10,7 @@ use Rattle.ir_model.specs.declared.function.Function.{Function}
 use Rattle.ir_model.specs.Shapes.{block_of, defined_blocks}
 use Rattle.ir_model.specs.Walks.{successors, Edge}
 use Rattle.flow_graph.specs.Graph.{exits}
-use Rattle.flow_graph.specs.EdgeLists.{block_id, succs_of, sources_in, preds_in, preds_of}
+use Rattle.flow_graph.specs.EdgeLists.{block_id, succs_of, sources_in, preds_of}
 use Rattle.flow_graph.proofs.ArcLemmas.{find_is, exits_to}
 use Rattle.flow_graph.proofs.FlowLemmas.{filter_only, filter_has, numbered, one_place}
 
@@ -58,17 +58,20 @@ sources_only : (from : BlockId) (targets : List ℕ) (b : ℕ) (x : BlockId) →
     → (from ≡ x) × Contains targets b
 sources_only from targets b x there =
     let found = map_only from (filter (λ to. to == b) targets) x there in
-    let first = filter_only (λ to. to == b) targets (get_or (filter (λ to. to == b) targets) 0 b) (0, found.1, get_or_default (filter (λ to. to == b) targets) 0 _ b found.1) in
+    let first = filter_only (λ to. to == b) targets (get_or (filter (λ to. to == b) targets) 0 b)
+    (0, found.1, get_or_default (filter (λ to. to == b) targets) 0 _ b found.1) in
     let is = eqb-true (get_or (filter (λ to. to == b) targets) 0 b) b first.1 in
     (found.0, subst (Contains targets) is first.0)
 
-sources_has : (from : BlockId) (targets : List ℕ) (b : ℕ) → Contains targets b → Contains (sources_in from targets b) from
+sources_has : (from : BlockId) (targets : List ℕ) (b : ℕ) → Contains targets b
+    → Contains (sources_in from targets b) from
 sources_has from targets b there =
     let found = filter_has (λ to. to == b) targets b there (eq-eqb b b refl) in
     let size = length-map (filter (λ to. to == b) targets) (λ (to : ℕ). from) in
     (found.0, omega (arith, found.1, size), map_at (λ (to : ℕ). from) (filter (λ to. to == b) targets) found.0 b)
 
-find_has : {X : Type 0} (p : X → Bool) (xs : List X) (x : X) → Contains xs x → p x ≡ true → (y : X) × (find p xs ≡ Some y)
+find_has : {X : Type 0} (p : X → Bool) (xs : List X) (x : X) → Contains xs x → p x ≡ true
+    → (y : X) × (find p xs ≡ Some y)
 find_has p [] x there passes = absurd (omega (arith, there.1))
 find_has p (y ∷ ys) x (zero, within, is) passes =
     let first : p y ≡ true = ap p is ∙ passes in
@@ -82,7 +85,8 @@ find_has p (y ∷ ys) x (suc k, within, is) passes =
     ]
 
 -- a block of a function is the block of its number
-pub block_of_itself : (f : Function) → AllPairs (λ a b. a ≢ b) (defined_blocks f) → (block : Block) → Contains f.blocks block
+pub block_of_itself : (f : Function) → AllPairs (λ a b. a ≢ b) (defined_blocks f) → (block : Block)
+    → Contains f.blocks block
     → block_of f block.id.0 ≡ Some block
 block_of_itself f once block there =
     let number : Block → ℕ = λ block. block.id.0 in
@@ -91,9 +95,12 @@ block_of_itself f once block there =
     let is = find_is (λ other. other.id.0 == block.id.0) f.blocks found.0 found.1 in
     let same : found.0.id.0 ≡ block.id.0 = eqb-true found.0.id.0 block.id.0 is.1 in
     let size = length-map f.blocks number in
-    let at : (x : Block) (in_it : Contains f.blocks x) → get_or (defined_blocks f) in_it.0 0 ≡ x.id.0 = λ x in_it. map_at number f.blocks in_it.0 none ∙ ap number (get_or_default f.blocks in_it.0 none x in_it.1 ∙ in_it.2) in
-    let place : is.0.0 ≡ there.0 = one_place f once is.0.0 there.0 (omega (arith, is.0.1, size)) (omega (arith, there.1, size)) (at found.0 is.0 ∙ same ∙ sym (at block there)) in
-    let one : found.0 ≡ block = sym is.0.2 ∙ ap (λ (k : ℕ). get_or f.blocks k found.0) place ∙ get_or_default f.blocks there.0 found.0 block there.1 ∙ there.2 in
+    let at : (x : Block) (in_it : Contains f.blocks x) → get_or (defined_blocks f) in_it.0 0 ≡ x.id.0 = λ x in_it.
+    map_at number f.blocks in_it.0 none ∙ ap number (get_or_default f.blocks in_it.0 none x in_it.1 ∙ in_it.2) in
+    let place : is.0.0 ≡ there.0 = one_place f once is.0.0 there.0 (omega (arith, is.0.1, size))
+    (omega (arith, there.1, size)) (at found.0 is.0 ∙ same ∙ sym (at block there)) in
+    let one : found.0 ≡ block = sym is.0.2 ∙ ap (λ (k : ℕ). get_or f.blocks k found.0) place
+    ∙ get_or_default f.blocks there.0 found.0 block there.1 ∙ there.2 in
     found.1 ∙ ap Some one
 
 pub preds_edge : (f : Function) → AllPairs (λ a b. a ≢ b) (defined_blocks f) → (a b : ℕ)

@@ -9,7 +9,7 @@ use Rattle.ir_model.specs.declared.function.Block.{Block}
 use Rattle.ir_model.specs.declared.function.Param.{Param}
 use Rattle.ir_model.specs.declared.function.Function.{Function}
 use Rattle.ir_model.specs.Shapes.{targets}
-use Rattle.ir_model.specs.Sites.{Site, DefinesValue, UsesBlock, operand_sites, result_sites, op_sites, instr_sites, block_sites}
+use Rattle.ir_model.specs.Sites.{DefinesValue, UsesBlock, operand_sites, result_sites, op_sites, instr_sites, block_sites}
 use Rattle.ir_model.specs.Walks.{successors}
 use Rattle.ir_model.specs.WellMade.{IsInTable, HasIds}
 
@@ -57,7 +57,8 @@ module _ (f : Function) where
   successors_within (instr ∷ instrs) h =
       let more = flat_map instr_sites instrs in
       let sites = all_left (IsInTable f) (instr_sites instr) more h in
-      let own = targets_within instr.op (all_right (IsInTable f) (result_sites instr.result) (op_sites instr.op) sites) in
+      let own = targets_within instr.op
+      (all_right (IsInTable f) (result_sites instr.result) (op_sites instr.op) sites) in
       let later = successors_within instrs (all_right (IsInTable f) (instr_sites instr) more h) in
       All-append IsLabel (targets instr.op) (successors instrs) own later
 
@@ -80,4 +81,5 @@ module _ (f : Function) where
   unfolding HasIds
   labelled ids =
       blocks_labelled f.blocks
-      (all_right (IsInTable f) (map (λ (p : Param). DefinesValue p.value.0) f.params) (flat_map block_sites f.blocks) ids)
+      (all_right (IsInTable f) (map (λ (p : Param). DefinesValue p.value.0) f.params)
+      (flat_map block_sites f.blocks) ids)

@@ -1,7 +1,7 @@
 -- Rows of the blocks that lead to each block, made target by target and block by block.
-use Rattle.std.proofs.Common.{◌≡◌, ◌==◌, ℕ, ◌+◌, ◌<◌, Bool, true, false, cond, List, [], ◌∷◌, ◌++◌, length, get_or, set, replicate, map, flat_map, filter, take, refl, sym, ap, ◌∙◌, inl, inr, arith, append_assoc, length-set, get_or-set_same, get_or-set_other}
+use Rattle.std.proofs.Common.{◌≡◌, ◌==◌, ℕ, ◌<◌, Bool, true, false, cond, List, [], ◌∷◌, ◌++◌, length, get_or, set, replicate, map, filter, refl, sym, ap, ◌∙◌, inl, inr, arith, append_assoc, get_or-set_same, get_or-set_other}
 use Rattle.std.proofs.lemmas.Bool.{cases_eq, cases_lt, eq-eqb, ne_eqb}
-use Rattle.std.proofs.lemmas.List.{append-nil, map-append, flat_map_more, get_or_past, get_or-replicate, length-replicate}
+use Rattle.std.proofs.lemmas.List.{append-nil, map-append, get_or_past, get_or-replicate, length-replicate}
 use Rattle.std.proofs.lemmas.List.Elements.{filter-append}
 use Rattle.std.proofs.lemmas.List.Concat.{flat_map-append}
 use Rattle.scev_base.specs.declared.ids.BlockId.{BlockId}
@@ -31,7 +31,8 @@ source_added old new from targets to within rows b =
     elim (cases_eq b to) [
       | inl e ↦
           let more = sources_push from targets to to true (eq-eqb to to refl) in
-          rw (e, get_or-set_same new to row [] within, rows to, more) (append_assoc (get_or old to []) (sources_in from targets to) (from ∷ []))
+          rw (e, get_or-set_same new to row [] within, rows to, more)
+          (append_assoc (get_or old to []) (sources_in from targets to) (from ∷ []))
       | inr apart ↦
           let none = sources_push from targets to b false (ne_eqb to b (λ e. apart (sym e))) in
           rw (get_or-set_other new to b row [] apart, rows b, none, append-nil (sources_in from targets b)) refl
@@ -46,7 +47,8 @@ no_preds n b =
     elim (cases_lt b n) [
       | inl within ↦ get_or-replicate {A = List BlockId} n b [] [] within
       | inr past ↦
-          get_or_past {X = List BlockId} (replicate n []) b [] (omega (arith, length-replicate {A = List BlockId} n [], past))
+          get_or_past {X = List BlockId} (replicate n []) b []
+          (omega (arith, length-replicate {A = List BlockId} n [], past))
     ]
 
 -- one more block
@@ -56,5 +58,6 @@ pub preds_more : (old new : List (List BlockId)) (blocks : List Block) (block : 
     → get_or new b [] ≡ preds_in (blocks ++ block ∷ []) b
 preds_more old new blocks block b before added =
     let own = sources_in block.id (successors block.instrs) b in
-    added ∙ ap (λ (xs : List BlockId). xs ++ own) before ∙ ap (λ (xs : List BlockId). preds_in blocks b ++ xs) (sym (append-nil own))
+    added ∙ ap (λ (xs : List BlockId). xs ++ own) before ∙ ap (λ (xs : List BlockId). preds_in blocks b ++ xs)
+    (sym (append-nil own))
     ∙ sym (flat_map-append (λ (one : Block). sources_in one.id (successors one.instrs) b) blocks (block ∷ []))

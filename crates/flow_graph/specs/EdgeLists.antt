@@ -10,8 +10,8 @@ use Rattle.flow_graph.specs.Graph.{exits}
 abbrev pub block_id : ℕ → BlockId
 block_id k = record { 0 = k }
 
--- The blocks to which a block leads, in the order of its instructions, each as often as they name it. A number that is no
--- block's leads nowhere.
+-- The blocks to which a block leads, in the order of its instructions, each as often as they name it. A number that is
+-- no block's leads nowhere.
 abbrev pub succs_of : Function → ℕ → List BlockId
 succs_of f b = map block_id (exits (block_of f b))
 

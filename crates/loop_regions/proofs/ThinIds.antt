@@ -1,5 +1,5 @@
 -- The ids of a function of the thin forms stand in its tables.
-use Rattle.std.proofs.Common.{◌≡◌, ℕ, ◌<◌, List, [], ◌∷◌, ◌++◌, length, map, flat_map, Option, Some, None, All}
+use Rattle.std.proofs.Common.{◌≡◌, ◌<◌, List, [], ◌∷◌, ◌++◌, length, map, flat_map, Option, Some, None, All}
 use Rattle.std.proofs.lemmas.List.Elements.{All-nil, All-cons, All-head, All-tail, All-append, All-map, All-weaker}
 use Rattle.scev_base.specs.declared.ids.ValueId.{ValueId}
 use Rattle.ir_model.specs.declared.op.Operand.{Operand}
@@ -34,11 +34,13 @@ module _ (f : Function) where
       → All Within (flat_map entry_sites entries)
   entries_within [] h = All-nil Within
   entries_within (entry ∷ entries) h =
-      let P : PhiEntry → Type 0 = λ entry. IsThinOperand (length f.values) entry.value × (entry.from.0 < length f.labels) in
+      let P : PhiEntry → Type 0 = λ entry. IsThinOperand (length f.values) entry.value
+      × (entry.from.0 < length f.labels) in
       let own = All-head P entry entries h in
       let from = one_within (UsesBlock entry.from.0) own.1 in
       All-append Within (entry_sites entry) (flat_map entry_sites entries)
-      (All-append Within (operand_sites entry.value) (UsesBlock entry.from.0 ∷ []) (operand_within entry.value own.0) from)
+      (All-append Within (operand_sites entry.value) (UsesBlock entry.from.0 ∷ [])
+      (operand_within entry.value own.0) from)
       (entries_within entries (All-tail P entry entries h))
 
   two_within : (x y : Operand) → IsThinOperand (length f.values) x → IsThinOperand (length f.values) y
@@ -54,7 +56,8 @@ module _ (f : Function) where
   ending_within : (op : Op) → IsThinEnding (length f.values) (length f.labels) op → All Within (op_sites op)
   ending_within (Jump to) h = one_within (UsesBlock to.0) h
   ending_within (Branch cond there other) h =
-      let both = All-cons Within (UsesBlock there.0) (UsesBlock other.0 ∷ []) h.1 (one_within (UsesBlock other.0) h.2) in
+      let both = All-cons Within (UsesBlock there.0) (UsesBlock other.0 ∷ []) h.1
+      (one_within (UsesBlock other.0) h.2) in
       All-append Within (operand_sites cond) (UsesBlock there.0 ∷ UsesBlock other.0 ∷ []) (operand_within cond h.0) both
   ending_within (Ret (Some typed)) h = operand_within typed.value h.1
   ending_within _ h = absurd h
@@ -70,7 +73,8 @@ module _ (f : Function) where
       rw h.0 (All-append Within (op_sites last.op) [] (ending_within last.op h.1) (All-nil Within))
   instrs_within (instr ∷ next ∷ more) h =
       All-append Within (instr_sites instr) (flat_map instr_sites (next ∷ more))
-      (All-append Within (result_sites instr.result) (op_sites instr.op) (result_within instr.result h.0) (giving_within instr.op h.1))
+      (All-append Within (result_sites instr.result) (op_sites instr.op) (result_within instr.result h.0)
+      (giving_within instr.op h.1))
       (instrs_within (next ∷ more) h.2)
 
   abbrev IsThinBlock : Block → Type 0
@@ -82,7 +86,8 @@ module _ (f : Function) where
   blocks_within (block ∷ blocks) h =
       let own = All-head IsThinBlock block blocks h in
       All-append Within (block_sites block) (flat_map block_sites blocks)
-      (All-cons Within (DefinesBlock block.id.0) (flat_map instr_sites block.instrs) own.0 (instrs_within block.instrs own.1))
+      (All-cons Within (DefinesBlock block.id.0) (flat_map instr_sites block.instrs) own.0
+      (instrs_within block.instrs own.1))
       (blocks_within blocks (All-tail IsThinBlock block blocks h))
 
   pub thin_ids : IsThinFunction f → HasIds f
@@ -90,5 +95,6 @@ module _ (f : Function) where
   thin_ids thin =
       let sites : Param → Site = λ (p : Param). DefinesValue p.value.0 in
       All-append Within (map sites f.params) (flat_map block_sites f.blocks)
-      (All-map Within sites f.params (All-weaker (λ (p : Param). (p.kind ≡ Int 32) × (p.value.0 < length f.values)) (λ (p : Param). p.value.0 < length f.values) (λ p h. h.1) f.params thin.params))
+      (All-map Within sites f.params (All-weaker (λ (p : Param). (p.kind ≡ Int 32) × (p.value.0 < length f.values))
+      (λ (p : Param). p.value.0 < length f.values) (λ p h. h.1) f.params thin.params))
       (blocks_within f.blocks thin.blocks)

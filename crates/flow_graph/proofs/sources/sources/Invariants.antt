@@ -1,4 +1,4 @@
-use Rattle.std.proofs.Common.{◌≡◌, ℕ, List, [], length, get_or, take}
+use Rattle.std.proofs.Common.{◌≡◌, ℕ, [], length, get_or, take}
 use Rattle.flow_graph.specs.EdgeLists.{preds_in}
 use Rattle.flow_graph.proofs.sources.sources.Given as goal
 
