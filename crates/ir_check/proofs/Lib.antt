@@ -3,3 +3,4 @@ mod Names
 mod Pairs
 mod PartRows
 mod ItemWalks
+mod ItemRules
