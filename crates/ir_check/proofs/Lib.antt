@@ -4,3 +4,4 @@ mod Pairs
 mod PartRows
 mod ItemWalks
 mod ItemRules
+mod Rows
