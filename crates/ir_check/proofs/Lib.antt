@@ -17,3 +17,5 @@ mod Names
 mod Pairs
 mod PartRows
 mod ItemWalks
+mod ItemRules
+mod Rows

@@ -1,5 +1,8 @@
 //! What is refused.
 
+ghost use Rattle.std.specs.Prelude.{◌≡◌};
+ghost use Rattle.ir_check.specs.declared.ill.Ill.TheVariants.{OutOfMemory};
+
 use ir_model::{Place, Rule};
 use std::alloc::AllocError;
 use thiserror::Error;
@@ -19,6 +22,8 @@ pub enum Ill {
 }
 
 impl From<AllocError> for Ill {
+    ghost from_gives = { λ _ error. error ≡ OutOfMemory };
+
     fn from(_error: AllocError) -> Ill {
         Ill::OutOfMemory
     }
