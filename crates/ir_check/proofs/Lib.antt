@@ -18,4 +18,3 @@ mod Pairs
 mod PartRows
 mod ItemWalks
 mod ItemRules
-mod Rows
