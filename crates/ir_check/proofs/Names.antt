@@ -21,6 +21,7 @@ noted old name q at new none is = is ∙ go (bytes_eq name q) refl
     none_behind : (o : Option ℕ) → o ≡ option_or o None
     none_behind None = refl
     none_behind (Some i) = refl
+
     go : (b : Bool) → bytes_eq name q ≡ b
         → cond b (Some at) (old q) ≡ option_or (old q) (if b then Some at else None)
     go true e = rw (ap old (sym (same_text name q e)) ∙ sym none) refl
@@ -34,6 +35,7 @@ kept old name q at place some = go (bytes_eq name q) refl
     none_behind : (o : Option ℕ) → o ≡ option_or o None
     none_behind None = refl
     none_behind (Some i) = refl
+
     go : (b : Bool) → bytes_eq name q ≡ b → old q ≡ option_or (old q) (if b then Some at else None)
     go true e = rw (ap old (sym (same_text name q e)) ∙ sym some) refl
     go false e = none_behind (old q)

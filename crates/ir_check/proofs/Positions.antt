@@ -38,6 +38,7 @@ find_position p (y ∷ ys) = rw (position_cons p y ys, find_cons) (step (p y) (p
   where
     find_cons : find p (y ∷ ys) ≡ cond (p y) (Some y) (find p ys)
     find_cons = grind (arith, common_steps)
+
     step : (b : Bool) (o : Option ℕ) → find p ys ≡ found_at ys o
         → cond b (Some y) (find p ys) ≡ found_at (y ∷ ys) (cond b (Some 0) (option_map suc o))
     step true o e = refl

@@ -58,7 +58,11 @@ impl<'a> Callees<'a> {
 }
 
 /// Notes the place of a name that has none yet.
-fn note<'a>(places: &mut IndexMap<&'a [u8], usize>, name: &'a [u8], at: usize) -> Result<(), AllocError>
+fn note<'a>(
+    places: &mut IndexMap<&'a [u8], usize>,
+    name: &'a [u8],
+    at: usize,
+) -> Result<(), AllocError>
     ensures { OnOk result ((q : List ℕ) → place_in places.new q
         ≡ option_or (place_in places.old q) (if bytes_eq name.now q then Some at else None)) }
 {

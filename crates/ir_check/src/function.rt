@@ -111,7 +111,11 @@ fn first_place(
 }
 
 /// The first width that its place doesn't allow: that of the return type, of a parameter, or of an instruction.
-fn bad_width(alloc: Global, callees: &Callees<'_>, f: &Function) -> Result<Option<Place>, AllocError>
+fn bad_width(
+    alloc: Global,
+    callees: &Callees<'_>,
+    f: &Function,
+) -> Result<Option<Place>, AllocError>
     ensures { IfOk result (λ found. found ≡ slice_get (bad_widths f.now) 0) }
 {
     if !is_wide(&f.ret) {

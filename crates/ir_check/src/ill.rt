@@ -12,10 +12,7 @@ use thiserror::Error;
 pub enum Ill {
     /// The first rule that is broken, and the first place in text order at which it is.
     #[error("a rule of well-formedness is broken")]
-    Broken {
-        rule: Rule,
-        place: Place,
-    },
+    Broken { rule: Rule, place: Place },
     /// No memory was found.
     #[error("out of memory")]
     OutOfMemory,

@@ -82,7 +82,9 @@ fn is_part_type(dims: &[u64], width: u32, part: &IrType) -> bool
 {
     match part {
         IrType::Int(bits) => dims.is_empty() && width == *bits,
-        IrType::Array(others, bits) => !dims.is_empty() && dims == others.as_slice() && width == *bits,
+        IrType::Array(others, bits) => !dims.is_empty()
+            && dims == others.as_slice()
+            && width == *bits,
         _ => false,
     }
 }

@@ -121,7 +121,13 @@ fn is_mistyped(item: &Item) -> bool
     ensures { result ≡ rules.is_mistyped item.now }
 {
     match item {
-        Item::Global(Global_ { kind, init: Some(value), .. }) => !init_fits(kind, value),
+        Item::Global(
+            Global_ {
+                kind,
+                init: Some(value),
+                ..
+            },
+        ) => !init_fits(kind, value),
         _ => false,
     }
 }
@@ -131,7 +137,13 @@ fn is_out_of_range(item: &Item) -> bool
     ensures { result ≡ rules.is_out_of_range item.now }
 {
     match item {
-        Item::Global(Global_ { kind, init: Some(value), .. }) => !init_in_range(kind, value),
+        Item::Global(
+            Global_ {
+                kind,
+                init: Some(value),
+                ..
+            },
+        ) => !init_in_range(kind, value),
         _ => false,
     }
 }

@@ -35,10 +35,10 @@ loop-at-preserved c =
           ∙ (w.in_ok-is_new-in-Some.ensures.keys ∙ ap (λ (b : Bool). cond b keys (keys ++ name ∷ [])) new) in
           rw more (sym (newly_named items c.loop-at.at c.index-items-at.result keys here name w.in-Some.ensures new)
           ∙ c.loop-at.invariant)
-      )
+          )
       | in-None w ↦ (
           let same : c.match-name_of.names.keys ≡ c.loop-at.names.keys = ap (λ s. s.keys) w.names-is in
           rw same (sym (nameless items c.loop-at.at c.index-items-at.result c.loop-at.names.keys here
           w.in-None.ensures) ∙ c.loop-at.invariant)
-      )
+          )
     ])
