@@ -18,3 +18,4 @@ mod Pairs
 mod PartRows
 mod ItemWalks
 mod ItemRules
+mod LaterRules

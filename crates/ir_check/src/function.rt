@@ -1,13 +1,13 @@
 //! The rules of a function's shape.
 
-ghost use Rattle.std.specs.Prelude.{◌≡◌, [], Some, None, Err, slice_get, drop, OnOk, IfOk};
+ghost use Rattle.std.specs.Prelude.{◌≡◌, [], Some, None, Err, true, slice_get, OnOk, IfOk};
 ghost use Rattle.ir_model.specs.WellMade.{HasIds};
 ghost use Rattle.ir_model.specs.declared.rule.Rule.{Rule as AnyRule};
 ghost use Rattle.ir_model.specs.declared.rule.Place.{Place as AnyPlace};
 ghost use Rattle.ir_rules.specs.Names.{duplicate_names};
 ghost use Rattle.ir_rules.specs.Types.{bad_widths};
-ghost use Rattle.ir_rules.specs.Rules.{broken, first_broken};
-ghost use Rattle.ir_check.specs.Function.{later_rules, first_later, IsFound};
+ghost use Rattle.ir_rules.specs.Rules.{broken, first_of, first_broken};
+ghost use Rattle.ir_check.specs.Function.{later_rules, is_later};
 
 use crate::callees::Callees;
 use crate::defined::{Names, definitions};
@@ -79,7 +79,7 @@ fn later_fault(
     f: &Function,
 ) -> Result<Option<(Rule, Place)>, AllocError>
     requires ids { HasIds f.now }
-    ensures { IfOk result (λ found. found ≡ first_later callees.now f.now later_rules) }
+    ensures { IfOk result (λ found. found ≡ first_of (broken callees.now f.now) later_rules) }
 {
     for rule in LATER_RULES {
         match first_place(alloc, rule, callees, f)? {
@@ -98,7 +98,8 @@ fn first_place(
     f: &Function,
 ) -> Result<Option<Place>, AllocError>
     requires ids { HasIds f.now }
-    ensures { IfOk result (λ found. IsFound callees.now f.now rule found) }
+    requires later { is_later rule ≡ true }
+    ensures { IfOk result (λ found. found ≡ slice_get (broken callees.now f.now rule) 0) }
 {
     match rule {
         Rule::BadWidth => bad_width(alloc, callees, f),
