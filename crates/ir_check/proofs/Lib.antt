@@ -17,3 +17,4 @@ mod Names
 mod Pairs
 mod PartRows
 mod ItemWalks
+mod SortedNumbers
