@@ -18,3 +18,5 @@ mod Pairs
 mod PartRows
 mod ItemWalks
 mod SortedNumbers
+mod AgreeingEntries
+mod BadEntries

@@ -1,5 +1,5 @@
 -- Two lists have each number as often where they are one list once they are sorted.
-use Rattle.std.proofs.Common.{◌≡◌, ℕ, zero, suc, ◌+◌, ◌<◌, ◌≤◌, ◌==◌, ◌×◌, ◌⊎◌, inl, inr, Bool, true, false, cond, List, [], ◌∷◌, ◌++◌, length, get_or, refl, sym, ap, ◌∙◌, subst, arith, ⊎_elim}
+use Rattle.std.proofs.Common.{◌≡◌, ℕ, zero, suc, ◌+◌, ◌<◌, ◌≤◌, ◌==◌, ◌⊎◌, inl, inr, Bool, true, false, cond, List, [], ◌∷◌, ◌++◌, length, get_or, refl, sym, ap, ◌∙◌, subst, arith, ⊎_elim}
 use Rattle.std.specs.List.{list_all, All, Contains}
 use Rattle.std.specs.List.Sorted.{IsPermutation, IsSorted, IsNonDecreasing}
 use Rattle.std.specs.Ordering.{nat_cmp}
@@ -21,14 +21,19 @@ occurs-first x xs = occurs-cons x x xs ∙ ap (λ b. cond b 1 0 + occurs x xs) (
 pub occurs-permutation : (n : ℕ) (xs ys : List ℕ) → IsPermutation xs ys → occurs n ys ≡ occurs n xs
 occurs-permutation n xs ys moved = sum_by-IsPermutation (λ other. cond (other == n) 1 0) xs ys moved
 
+occurs-other : (n x : ℕ) (xs : List ℕ) → (x ≡ n → ⊥) → occurs n (x ∷ xs) ≡ occurs n xs
+occurs-other n x xs apart =
+    let e : occurs n (x ∷ xs) ≡ 0 + occurs n xs =
+    occurs-cons n x xs ∙ ap (λ b. cond b 1 0 + occurs n xs) (ne_eqb x n apart) in
+    omega arith
+
 -- a number below each of a list has no place in it
 below_all : (n : ℕ) (xs : List ℕ) → ((i : ℕ) → i < length xs → n < get_or xs i 0) → occurs n xs ≡ 0
 below_all n [] below = refl
 below_all n (x ∷ xs) below =
     let first : n < x = below 0 (omega arith) in
-    let other : (x == n) ≡ false = ne_eqb x n (λ (e : x ≡ n). omega arith) in
-    occurs-cons n x xs ∙ (ap (λ b. cond b 1 0 + occurs n xs) other
-    ∙ below_all n xs (λ i within. below (suc i) (omega arith)))
+    occurs-other n x xs (λ (e : x ≡ n). omega arith)
+    ∙ below_all n xs (λ i within. below (suc i) (omega arith))
 
 -- the first number of a sorted list is no higher than that of another one that has each number as often
 first_least : (x y : ℕ) (xs ys : List ℕ) → IsNonDecreasing (y ∷ ys)
@@ -65,17 +70,18 @@ sorted_equal (x ∷ xs) (y ∷ ys) rising rising' same =
 place_or_none : (n : ℕ) (xs : List ℕ) → Contains xs n ⊎ (occurs n xs ≡ 0)
 place_or_none n [] = inr refl
 place_or_none n (x ∷ xs) = ⊎_elim
-    (λ (e : x ≡ n). inl (0, (omega arith, e)))
+    (λ (e : x ≡ n). inl (0, omega arith, e))
     (λ (apart : x ≡ n → ⊥). ⊎_elim
-      (λ (there : Contains xs n). inl (suc there.0, (omega arith, there.2.0)))
-      (λ (none : occurs n xs ≡ 0). inr (occurs-cons n x xs
-      ∙ (ap (λ b. cond b 1 0 + occurs n xs) (ne_eqb x n apart) ∙ none)))
+      (λ (there : Contains xs n). inl (suc there.0, omega (arith, there.1), there.2))
+      (λ (none : occurs n xs ≡ 0). inr (occurs-other n x xs apart ∙ none))
       (place_or_none n xs))
     (cases_eq x n)
 
 -- what `same_numbers` decides
 pub same_numbers_decides : (ms ns : List ℕ) → Decides (same_numbers ms ns) ((n : ℕ) → occurs n ms ≡ occurs n ns)
-same_numbers_decides ms ns = Decides-like _ everywhere (λ same. All-from_get_or _ (ms ++ ns) 0 (λ i within. same _))
+same_numbers_decides ms ns = Decides-like (same_numbers ms ns) everywhere 
+    (λ (same : (n : ℕ) → occurs n ms ≡ occurs n ns). All-from_get_or (λ n. occurs n ms ≡ occurs n ns) (ms ++ ns) 0
+    (λ i within. same (get_or (ms ++ ns) i 0)))
     (Decides-by_and (λ n. occurs n ms == occurs n ns) (λ n. occurs n ms ≡ occurs n ns)
     (list_all (λ n. occurs n ms == occurs n ns)) (λ n. Decides-eqb (occurs n ms) (occurs n ns)) refl (λ _ _. refl)
     (ms ++ ns))

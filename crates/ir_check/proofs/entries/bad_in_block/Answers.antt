@@ -1,0 +1,3 @@
+use Rattle.std.proofs.Common.{◌≡◌}
+use Rattle.ir_check.proofs.BadEntries.{incoming_preds}
+use Rattle.ir_check.proofs.entries.bad_in_block.Goals as goal
