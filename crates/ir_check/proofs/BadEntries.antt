@@ -1,5 +1,6 @@
 -- The first phi whose entries aren't its block's edges, among instructions and among blocks.
-use Rattle.std.proofs.Common.{arith, ◌≡◌, ℕ, ◌+◌, ◌<◌, ◌==◌, Bool, true, false, not, if◌then◌else◌, List, [], ◌∷◌, ◌++◌, Option, Some, None, map, filter, flat_map, length, get_or, slice_get, drop, refl, sym, ap, ◌∙◌}
+use Rattle.std.proofs.Common.{arith, ◌≡◌, ℕ, ◌+◌, ◌<◌, ◌==◌, Bool, true, false, not, if◌then◌else◌, List, [], ◌∷◌, ◌++◌, Option, Some, None, map, filter, flat_map, length, get_or, slice_get, drop, refl, sym, ap, subst, ◌∙◌}
+use Rattle.std.specs.List.Sorted.{IsPermutation}
 use Rattle.std.proofs.lemmas.List.{map-append}
 use Rattle.std.proofs.lemmas.List.Elements.{filter-append}
 use Rattle.scev_base.specs.declared.ids.BlockId.{BlockId}
@@ -31,6 +32,13 @@ incoming_preds f b = in_blocks f.blocks
         (in_targets block.id (filter (λ to. to == b) (successors block.instrs)))
         ∙ ap (λ rest. map (λ (to : ℕ). block.id.0) (filter (λ to. to == b) (successors block.instrs)) ++ rest)
         (in_blocks blocks))
+
+-- what stands in the order of the blocks that lead to a block
+pub incoming_moved : (f : Function) (b : ℕ) (preds : List BlockId) (sources given : List ℕ) → preds ≡ preds_of f b
+    → IsPermutation (map (λ (p : BlockId). p.0) preds) sources → given ≡ sources → IsPermutation (incoming f b) given
+incoming_moved f b preds sources given are moved is = subst (λ (ns : List ℕ). IsPermutation ns given)
+    (ap (map (λ (p : BlockId). p.0)) are ∙ incoming_preds f b)
+    (subst (IsPermutation (map (λ (p : BlockId). p.0) preds)) (sym is) moved)
 
 -- the places in one instruction, and in one block
 abbrev pub places_at : Function → ℕ → Instr → List Place
