@@ -1,5 +1,5 @@
 -- Entries from one block have one operand where each has that of the first.
-use Rattle.std.proofs.Common.{rules, arith, ◌≡◌, ℕ, zero, suc, ◌+◌, ◌<◌, ◌==◌, Bool, true, false, cond, not, ◌||◌, ◌&&◌, List, [], ◌∷◌, ◌++◌, length, get_or, take, drop, take-append-drop, Option, Some, None, unwrap_or, refl, sym, ap, ◌∙◌}
+use Rattle.std.proofs.Common.{arith, ◌≡◌, ℕ, zero, suc, ◌+◌, ◌<◌, ◌==◌, Bool, true, false, cond, not, ◌||◌, ◌&&◌, List, [], ◌∷◌, ◌++◌, length, get_or, take, drop, take-append-drop, Option, Some, None, unwrap_or, refl, sym, ap, ◌∙◌}
 use Rattle.std.specs.List.{list_all, All, Contains}
 use Rattle.std.specs.Bool.{Decides}
 use Rattle.std.specs.Option.{option_or}
@@ -61,16 +61,16 @@ agree_decides : (kind : IrType) (entries : List PhiEntry) → Decides (entries_a
     (All (λ one. All (Agree kind one) entries) entries)
 agree_decides kind entries = Decides-by_and
     (λ (one : PhiEntry). list_all (λ (other : PhiEntry).
-      not (one.from.0 == other.from.0) || same_operand kind one.value other.value) entries)
+    not (one.from.0 == other.from.0) || same_operand kind one.value other.value) entries)
     (λ one. All (Agree kind one) entries)
     (list_all (λ (one : PhiEntry). list_all (λ (other : PhiEntry).
-      not (one.from.0 == other.from.0) || same_operand kind one.value other.value) entries))
+    not (one.from.0 == other.from.0) || same_operand kind one.value other.value) entries))
     (λ (one : PhiEntry). Decides-by_and
-      (λ (other : PhiEntry). not (one.from.0 == other.from.0) || same_operand kind one.value other.value)
-      (Agree kind one)
-      (list_all (λ (other : PhiEntry). not (one.from.0 == other.from.0) || same_operand kind one.value other.value))
-      (λ (other : PhiEntry). implies_decides (one.from.0 == other.from.0) (same_operand kind one.value other.value)
-      (Decides-eqb one.from.0 other.from.0) (same_decides kind one.value other.value)) refl (λ _ _. refl) entries)
+    (λ (other : PhiEntry). not (one.from.0 == other.from.0) || same_operand kind one.value other.value)
+    (Agree kind one)
+    (list_all (λ (other : PhiEntry). not (one.from.0 == other.from.0) || same_operand kind one.value other.value))
+    (λ (other : PhiEntry). implies_decides (one.from.0 == other.from.0) (same_operand kind one.value other.value)
+    (Decides-eqb one.from.0 other.from.0) (same_decides kind one.value other.value)) refl (λ _ _. refl) entries)
     refl (λ _ _. refl) entries
 
 -- the operand of the first entry from a block
@@ -96,9 +96,11 @@ first_in-push xs x q = first_in-append xs (x ∷ []) q
 first_there : (entries : List PhiEntry) (one : PhiEntry) (k : ℕ) → k < length entries → get_or entries k one ≡ one
     → (v : Operand) × (first_in entries one.from.0 ≡ Some v)
 first_there [] one k within is = absurd (omega arith)
-first_there (x ∷ xs) one zero within is =
-    (x.value, ap (λ b. cond b (Some x.value) (first_in xs one.from.0))
-    (eq-eqb x.from.0 one.from.0 (ap (λ (entry : PhiEntry). entry.from.0) is)))
+first_there (x ∷ xs) one zero within is = (
+  x.value,
+  ap (λ b. cond b (Some x.value) (first_in xs one.from.0))
+      (eq-eqb x.from.0 one.from.0 (ap (λ (entry : PhiEntry). entry.from.0) is)),
+)
 first_there (x ∷ xs) one (suc k) within is =
     go (x.from.0 == one.from.0) (first_there xs one k (omega arith) is)
   where

@@ -1,5 +1,5 @@
 -- The first phi whose entries aren't its block's edges, among instructions and among blocks.
-use Rattle.std.proofs.Common.{arith, ◌≡◌, ℕ, ◌+◌, ◌<◌, ◌==◌, Bool, true, false, not, if◌then◌else◌, List, [], ◌∷◌, ◌++◌, Option, Some, None, map, filter, flat_map, length, get_or, slice_get, drop, refl, sym, ap, subst, ◌∙◌}
+use Rattle.std.proofs.Common.{◌≡◌, ℕ, ◌==◌, Bool, true, false, not, if◌then◌else◌, List, [], ◌∷◌, ◌++◌, Option, Some, None, map, filter, flat_map, slice_get, refl, sym, ap, subst, ◌∙◌}
 use Rattle.std.specs.List.Sorted.{IsPermutation}
 use Rattle.std.proofs.lemmas.List.{map-append}
 use Rattle.std.proofs.lemmas.List.Elements.{filter-append}
@@ -9,11 +9,10 @@ use Rattle.ir_model.specs.declared.function.Block.{Block}
 use Rattle.ir_model.specs.declared.function.Function.{Function}
 use Rattle.ir_model.specs.declared.rule.Place.{Place}
 use Rattle.ir_model.specs.Walks.{successors}
-use Rattle.ir_rules.specs.Spots.{Spot, block_spots, spots, place, named_by}
-use Rattle.ir_rules.specs.Blocks.{incoming, entries_fit, bad_entries}
+use Rattle.ir_rules.specs.Spots.{Spot, block_spots, place, named_by}
+use Rattle.ir_rules.specs.Blocks.{incoming, entries_fit}
 use Rattle.flow_graph.specs.EdgeLists.{preds_of, preds_in, sources_in}
 use Rattle.ir_check.specs.Entries.{bad_places}
-use Rattle.ir_check.proofs.FirstPlaces.{rest_at}
 
 -- the numbers of the blocks that lead to a block
 pub incoming_preds : (f : Function) (b : ℕ) → map (λ (p : BlockId). p.0) (preds_of f b) ≡ incoming f b
@@ -23,6 +22,7 @@ incoming_preds f b = in_blocks f.blocks
         → map (λ (p : BlockId). p.0) (map (λ (to : ℕ). from) targets) ≡ map (λ (to : ℕ). from.0) targets
     in_targets from [] = refl
     in_targets from (to ∷ targets) = ap (λ rest. from.0 ∷ rest) (in_targets from targets)
+
     in_blocks : (blocks : List Block) → map (λ (p : BlockId). p.0) (preds_in blocks b)
         ≡ flat_map (λ (block : Block). map (λ to. block.id.0) (filter (λ to. to == b) (successors block.instrs))) blocks
     in_blocks [] = refl
@@ -76,6 +76,7 @@ first_at f b instr fits is = ap first (sym is) ∙ go fits
   where
     first : Bool → Option Place
     first fits = slice_get (map place (filter (λ (spot : Spot). not fits) (record { block = b; instr = instr } ∷ []))) 0
+
     go : (fits : Bool) → first fits ≡ (if fits then None else Some (named_by b instr.result))
     go true = refl
     go false = refl

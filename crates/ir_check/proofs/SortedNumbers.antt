@@ -1,11 +1,11 @@
 -- Two lists have each number as often where they are one list once they are sorted.
-use Rattle.std.proofs.Common.{◌≡◌, ℕ, zero, suc, ◌+◌, ◌<◌, ◌≤◌, ◌==◌, ◌⊎◌, inl, inr, Bool, true, false, cond, List, [], ◌∷◌, ◌++◌, length, get_or, refl, sym, ap, ◌∙◌, subst, arith, ⊎_elim}
+use Rattle.std.proofs.Common.{◌≡◌, ℕ, suc, ◌+◌, ◌<◌, ◌≤◌, ◌==◌, ◌⊎◌, inl, inr, cond, List, [], ◌∷◌, ◌++◌, length, get_or, refl, sym, ap, ◌∙◌, subst, arith, ⊎_elim}
 use Rattle.std.specs.List.{list_all, All, Contains}
 use Rattle.std.specs.List.Sorted.{IsPermutation, IsSorted, IsNonDecreasing}
 use Rattle.std.specs.Ordering.{nat_cmp}
 use Rattle.std.specs.Bool.{Decides}
 use Rattle.std.proofs.lemmas.Bool.{ne_eqb, eq-eqb, cases_lt, cases_eq}
-use Rattle.std.proofs.lemmas.Bool.Decides.{Decides-eqb, Decides-by_and, Decides-like, same_from_decides}
+use Rattle.std.proofs.lemmas.Bool.Decides.{Decides-eqb, Decides-by_and, Decides-like}
 use Rattle.std.proofs.lemmas.List.Elements.{All-from_get_or, All-contains}
 use Rattle.std.proofs.lemmas.List.Sums.{sum_by-cons, sum_by-append}
 use Rattle.std.proofs.lemmas.List.Sorted.{sum_by-IsPermutation, IsNonDecreasingBy-from_sort}
@@ -40,9 +40,9 @@ first_least : (x y : ℕ) (xs ys : List ℕ) → IsNonDecreasing (y ∷ ys)
     → ((n : ℕ) → occurs n (x ∷ xs) ≡ occurs n (y ∷ ys)) → y ≤ x
 first_least x y xs ys rising same = ⊎_elim
     (λ (lower : x < y).
-      let none : occurs x (y ∷ ys) ≡ 0 = below_all x (y ∷ ys)
-      (λ i within. let least : y ≤ get_or (y ∷ ys) i 0 = rising 0 i 0 (omega arith) within in omega arith) in
-      absurd (omega (arith, same x, none, occurs-first x xs)))
+    let none : occurs x (y ∷ ys) ≡ 0 = below_all x (y ∷ ys)
+    (λ i within. let least : y ≤ get_or (y ∷ ys) i 0 = rising 0 i 0 (omega arith) within in omega arith) in
+    absurd (omega (arith, same x, none, occurs-first x xs)))
     (λ (e : y ≤ x). e)
     (cases_lt x y)
 
@@ -72,14 +72,14 @@ place_or_none n [] = inr refl
 place_or_none n (x ∷ xs) = ⊎_elim
     (λ (e : x ≡ n). inl (0, omega arith, e))
     (λ (apart : x ≡ n → ⊥). ⊎_elim
-      (λ (there : Contains xs n). inl (suc there.0, omega (arith, there.1), there.2))
-      (λ (none : occurs n xs ≡ 0). inr (occurs-other n x xs apart ∙ none))
-      (place_or_none n xs))
+    (λ (there : Contains xs n). inl (suc there.0, omega (arith, there.1), there.2))
+    (λ (none : occurs n xs ≡ 0). inr (occurs-other n x xs apart ∙ none))
+    (place_or_none n xs))
     (cases_eq x n)
 
 -- what `same_numbers` decides
 pub same_numbers_decides : (ms ns : List ℕ) → Decides (same_numbers ms ns) ((n : ℕ) → occurs n ms ≡ occurs n ns)
-same_numbers_decides ms ns = Decides-like (same_numbers ms ns) everywhere 
+same_numbers_decides ms ns = Decides-like (same_numbers ms ns) everywhere
     (λ (same : (n : ℕ) → occurs n ms ≡ occurs n ns). All-from_get_or (λ n. occurs n ms ≡ occurs n ns) (ms ++ ns) 0
     (λ i within. same (get_or (ms ++ ns) i 0)))
     (Decides-by_and (λ n. occurs n ms == occurs n ns) (λ n. occurs n ms ≡ occurs n ns)
@@ -90,9 +90,9 @@ same_numbers_decides ms ns = Decides-like (same_numbers ms ns) everywhere
     everywhere all n = ⊎_elim
         (λ (there : Contains (ms ++ ns) n). All-contains (λ n. occurs n ms ≡ occurs n ns) (ms ++ ns) n all there)
         (λ (none : occurs n (ms ++ ns) ≡ 0).
-          let parts : occurs n (ms ++ ns) ≡ occurs n ms + occurs n ns =
-          sum_by-append (λ other. cond (other == n) 1 0) ms ns in
-          omega arith)
+        let parts : occurs n (ms ++ ns) ≡ occurs n ms + occurs n ns =
+        sum_by-append (λ other. cond (other == n) 1 0) ms ns in
+        omega arith)
         (place_or_none n (ms ++ ns))
 
 module _ (ms ns named sources : List ℕ) (moved : IsPermutation ms named) (moved' : IsPermutation ns sources)

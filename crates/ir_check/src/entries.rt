@@ -1,6 +1,7 @@
 //! Entries of phis, which are the edges into their blocks.
 
-ghost use Rattle.std.specs.Prelude.{◌≡◌, ◌==◌, ℕ, List, Some, None, ◌&&◌, if◌then◌else◌, map, nat_eq, slice_get, unwrap_or, IfOk, OnOk};
+ghost use Rattle.std.specs.Prelude.{◌≡◌, ◌==◌, ◌&&◌, ℕ, List, Some, None, if◌then◌else◌, map, nat_eq};
+ghost use Rattle.std.specs.Prelude.{slice_get, unwrap_or, IfOk, OnOk};
 ghost use Rattle.std.specs.Option.{option_or};
 ghost use Rattle.indexmap.specs.IndexMap.{get};
 ghost use Rattle.std.specs.List.Sorted.{IsPermutation, IsSorted};
@@ -63,7 +64,7 @@ fn sorted(alloc: Global, blocks: &[BlockId]) -> Result<Vec<u64>, AllocError>
     Ok(sorted)
 }
 
-/// Whether an operation is no phi, or its entries are the edges into its block; the blocks that lead there are in order.
+/// Whether an operation is no phi, or its entries are the edges into its block, of which `sources` are in order.
 fn op_fits(alloc: Global, op: &Op, sources: &[u64]) -> Result<bool, AllocError>
     requires sorted { IsSorted nat_cmp sources.now }
     ensures { (f : AnyFunction) (b : ℕ) → IsPermutation (blocks.incoming f b) sources.now →

@@ -1,4 +1,4 @@
-use Rattle.std.proofs.Common.{arith, ◌≡◌, ◌<◌, ◌≤◌, length, true, false, Some, flat_map, slice_get, sym, ap, ◌∙◌}
+use Rattle.std.proofs.Common.{arith, ◌<◌, ◌≤◌, length, true, false, Some, flat_map, slice_get, sym, ap, ◌∙◌}
 use Rattle.ir_rules.specs.Spots.{named_by}
 use Rattle.ir_check.proofs.FirstPlaces.{first_found, first_behind, first_past}
 use Rattle.ir_check.proofs.BadEntries.{places_at, places_flat, first_at, incoming_moved}

@@ -1,4 +1,4 @@
-use Rattle.std.proofs.Common.{◌≡◌, ◌+◌, ◌<◌, ◌==◌, ◌∷◌, [], ◌++◌, cond, Some, None, length, take, get_or, nat_eq, sym, ap, ◌∙◌, arith}
+use Rattle.std.proofs.Common.{◌≡◌, ◌<◌, ◌==◌, cond, Some, None, length, take, get_or, nat_eq, sym, ap, ◌∙◌, arith}
 use Rattle.std.specs.List.{list_all}
 use Rattle.std.specs.Option.{option_or}
 use Rattle.std.proofs.lemmas.Bool.{and_from}
@@ -25,12 +25,12 @@ loop-entry-preserved c =
     ∙ (sym c.same_operand.ensures ∙ c.if-not-same_operand.false) in
     record {
       noted = λ q. c.in_ok-first.ensures.noted q
-        ∙ (ap (λ o. option_or o (cond (entry.from.0 == q) (Some entry.value) None)) (c.loop-entry.invariant.noted q)
-        ∙ (sym (first_in-push (take i entries) entry q)
-        ∙ ap (λ all. first_in all q) (sym (take_more entries i blank within))));
+          ∙ (ap (λ o. option_or o (cond (entry.from.0 == q) (Some entry.value) None)) (c.loop-entry.invariant.noted q)
+          ∙ (sym (first_in-push (take i entries) entry q)
+          ∙ ap (λ all. first_in all q) (sym (take_more entries i blank within))));
       agree = list_all_more (fits_first kind entries) entries i blank within
-        ∙ and_from (list_all (fits_first kind entries) (take i entries)) (fits_first kind entries entry)
-        c.loop-entry.invariant.agree fits
+          ∙ and_from (list_all (fits_first kind entries) (take i entries)) (fits_first kind entries entry)
+          c.loop-entry.invariant.agree fits;
     }
 
 pub returns-then-not-same_operand : goal.returns-then-not-same_operand

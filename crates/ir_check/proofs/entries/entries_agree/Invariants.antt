@@ -8,5 +8,5 @@ use Rattle.ir_check.proofs.entries.entries_agree.Given as goal
 abbrev pub invariant-loop-entry : goal.invariant-loop-entry
 invariant-loop-entry l = record {
   noted : (q : ℕ) → get nat_eq l.firsts q ≡ first_in (take l.entry-index l.entries) q;
-  agree : list_all (fits_first l.kind l.entries) (take l.entry-index l.entries) ≡ true
+  agree : list_all (fits_first l.kind l.entries) (take l.entry-index l.entries) ≡ true;
 }
