@@ -19,3 +19,6 @@ mod PartRows
 mod ItemWalks
 mod ItemRules
 mod LaterRules
+mod SortedNumbers
+mod AgreeingEntries
+mod BadEntries
