@@ -52,17 +52,18 @@ module _ (words : List ℕ) (count n v : ℕ) (bit : Bool) where
       → bits_of (set words (n / 64) v) count ≡ set (bits_of words count) n bit
   bits_of-set within room here others =
       let word_in : n / 64 < length words = omega arith in
-      let n_in : n < length (bits_of words count) = omega (arith, length-bits_of words count) in
+      let bits : List Bool = bits_of words count in
+      let n_in : n < length bits = omega (arith, length-bits_of words count) in
       ext_get_or false _ _
-      (length-bits_of _ count ∙ sym (length-set (bits_of words count) n bit ∙ length-bits_of words count))
+      (length-bits_of _ count ∙ sym (length-set bits n bit ∙ length-bits_of words count))
       (λ k h.
       let k_in : k < count = rw length-bits_of at h in
       get_or-bits_of _ count k k_in
-      ∙ (elim (cases_eq k n) as (λ _. bit_of (set words (n / 64) v) k ≡ get_or (set (bits_of words count) n bit) k false) [
+      ∙ (elim (cases_eq k n) as (λ _. bit_of (set words (n / 64) v) k ≡ get_or (set bits n bit) k false) [
         | inl same ↦
             rw same
             (ap (λ x. eqb (bit_at x (n % 64)) 1) (get_or-set_same words (n / 64) v 0 word_in)
-            ∙ here ∙ sym (get_or-set_same (bits_of words count) n bit false n_in))
+            ∙ here ∙ sym (get_or-set_same bits n bit false n_in))
         | inr other ↦
             (elim (cases_eq (k / 64) (n / 64)) as (λ _. bit_of (set words (n / 64) v) k ≡ bit_of words k) [
               | inl row ↦
@@ -73,7 +74,7 @@ module _ (words : List ℕ) (count n v : ℕ) (bit : Bool) where
               | inr apart ↦ ap (λ x. eqb (bit_at x (k % 64)) 1) (get_or-set_other words (n / 64) (k / 64) v 0 apart)
             ])
             ∙ sym (get_or-bits_of words count k k_in)
-            ∙ sym (get_or-set_other (bits_of words count) n k bit false other)
+            ∙ sym (get_or-set_other bits n k bit false other)
       ]))
 
 -- `word | 1 << place`
@@ -121,21 +122,24 @@ module _ (f : ℕ → ℕ → ℕ) (old other new : List ℕ) where
   bits_of-merged : (g : Bool → Bool → Bool) (count n : ℕ) → IsMerged f old other new n → count ≤ n * 64
       → g false false ≡ false
       → ((a b i : ℕ) → eqb (bit_at (f a b) i) 1 ≡ g (eqb (bit_at a i) 1) (eqb (bit_at b i) 1)) → (k : ℕ)
-      → get_or (bits_of new count) k false ≡ g (get_or (bits_of old count) k false) (get_or (bits_of other count) k false)
+      → get_or (bits_of new count) k false
+      ≡ g (get_or (bits_of old count) k false) (get_or (bits_of other count) k false)
   bits_of-merged g count n h room none each k =
       elim (cases_lt k count) [
         | inl within ↦
-            rw (get_or-bits_of new count k within, get_or-bits_of old count k within, get_or-bits_of other count k within)
+            let here = λ (words : List ℕ). get_or-bits_of words count k within in
+            rw (here new, here old, here other)
             (ap (λ x. eqb (bit_at x (k % 64)) 1) (h.before (k / 64) (omega arith)) ∙ each _ _ (k % 64))
         | inr past ↦
-            rw (past-bits_of new count k past, past-bits_of old count k past, past-bits_of other count k past) (sym none)
+            let there = λ (words : List ℕ). past-bits_of words count k past in
+            rw (there new, there old, there other) (sym none)
       ]
 
-or_bits : (x y : ℕ) → x < 2 → y < 2 → eqb (max x y) 1 ≡ (eqb x 1 || eqb y 1)
-or_bits x y h k = grind (arith, nat_tests)
+either_bit : (x y : ℕ) → x < 2 → y < 2 → eqb (max x y) 1 ≡ (eqb x 1 || eqb y 1)
+either_bit x y h k = grind (arith, nat_tests)
 
-and_bits : (x y : ℕ) → x < 2 → y < 2 → eqb (min x y) 1 ≡ (eqb x 1 && eqb y 1)
-and_bits x y h k = grind (arith, nat_tests)
+both_bits : (x y : ℕ) → x < 2 → y < 2 → eqb (min x y) 1 ≡ (eqb x 1 && eqb y 1)
+both_bits x y h k = grind (arith, nat_tests)
 
 module _ (old other new : List ℕ) (count n : ℕ) where
   pub bits_of-or : IsMerged bit_or old other new n → count ≤ n * 64 → (k : ℕ)
@@ -143,11 +147,11 @@ module _ (old other new : List ℕ) (count n : ℕ) where
       ≡ (get_or (bits_of old count) k false || get_or (bits_of other count) k false)
   bits_of-or h room =
       bits_of-merged bit_or old other new ◌||◌ count n h room refl
-      (λ a b i. ap (λ x. eqb x 1) (bit_at_or a b i) ∙ or_bits (bit_at a i) (bit_at b i) (bit_at-lt a i) (bit_at-lt b i))
+      (λ a b i. ap (λ x. eqb x 1) (bit_at_or a b i) ∙ either_bit _ _ (bit_at-lt a i) (bit_at-lt b i))
 
   pub bits_of-and : IsMerged bit_and old other new n → count ≤ n * 64 → (k : ℕ)
       → get_or (bits_of new count) k false
       ≡ (get_or (bits_of old count) k false && get_or (bits_of other count) k false)
   bits_of-and h room =
       bits_of-merged bit_and old other new ◌&&◌ count n h room refl
-      (λ a b i. ap (λ x. eqb x 1) (bit_at_and a b i) ∙ and_bits (bit_at a i) (bit_at b i) (bit_at-lt a i) (bit_at-lt b i))
+      (λ a b i. ap (λ x. eqb x 1) (bit_at_and a b i) ∙ both_bits _ _ (bit_at-lt a i) (bit_at-lt b i))

@@ -5,8 +5,8 @@ ghost use Rattle.std.specs.Prelude.{◌≡◌, ◌<◌, ℕ, true, false, ◌||�
 use std::alloc::{AllocError, Global};
 use std::marker::Model;
 
-/// A row of so many bits, 64 to a word, from the lowest bit of the first word on. Contracts see the list of its
-/// bits.
+/// A row of so many bits, 64 to a word. Contracts see the list of its bits, from the lowest bit of the first
+/// word on.
 #[derive(Drop)]
 pub struct BitRow {
     words: Vec<u64>,
@@ -55,7 +55,7 @@ impl BitRow {
         ensures { self.new ≡ slice_set self.old at true }
     {
         let word = self.words[at / 64];
-        self.words[at / 64] = word | 1 << (at % 64);
+        self.words[at / 64] = word | (1 << (at % 64));
     }
 
     /// Makes the bit at a place of the row false. Constant time; no memory.
@@ -67,8 +67,8 @@ impl BitRow {
         self.words[at / 64] = word & !(1 << (at % 64));
     }
 
-    /// Makes each bit true that is true in the other row, which has as many bits. It takes 64 bits at a time; no
-    /// memory.
+    /// Makes each bit true that is true in the other row, which has as many bits: 64 at a time, in linear time.
+    /// No memory.
     pub fn join(&mut self, other: &BitRow)
         requires { length self.old ≡ length other.now }
         ensures count { length self.new ≡ length self.old }
@@ -80,8 +80,8 @@ impl BitRow {
         }
     }
 
-    /// Makes each bit false that is false in the other row, which has as many bits. It takes 64 bits at a time; no
-    /// memory.
+    /// Makes each bit false that is false in the other row, which has as many bits: 64 at a time, in linear time.
+    /// No memory.
     pub fn meet(&mut self, other: &BitRow)
         requires { length self.old ≡ length other.now }
         ensures count { length self.new ≡ length self.old }

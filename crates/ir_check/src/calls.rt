@@ -1,6 +1,9 @@
 //! Calls and what a function returns.
 
-ghost use Rattle.std.specs.Prelude.{◌≡◌};
+ghost use Rattle.std.specs.Prelude.{◌≡◌, [], ◌∷◌, codes};
+ghost use Rattle.std.specs.List.{list_any};
+ghost use Rattle.std.specs.Str.{bytes_eq};
+ghost use Rattle.ir_model.specs.Kinds as kinds;
 ghost use Rattle.ir_rules.specs.Values as values;
 
 use crate::callees::Callees;
@@ -10,6 +13,7 @@ use itoa::Buffer;
 
 /// Whether a call is of a function of the module and has its types; each other operation fits.
 pub(crate) fn call_fits(callees: &Callees<'_>, op: &Op) -> bool
+    ensures { result ≡ values.call_fits callees.now op.now }
 {
     match op {
         Op::Call { ret, callee, args } => {
@@ -30,23 +34,39 @@ pub(crate) fn call_fits(callees: &Callees<'_>, op: &Op) -> bool
 }
 
 /// Whether there are two arguments, both of the type.
-fn are_both(args: &[TypedOperand], kind: &IrType) -> bool {
-    args.len() == 2 && same_type(&args[0].kind, kind) && same_type(&args[1].kind, kind)
+fn are_both(args: &[TypedOperand], kind: &IrType) -> bool
+    ensures { result ≡ values.same_types (values.kinds_of args.now) (kind.now ∷ kind.now ∷ []) }
+{
+    match args {
+        [first, second] => same_type(&first.kind, kind) && same_type(&second.kind, kind),
+        _ => false,
+    }
 }
 
 /// Whether a callee is a minimum or a maximum of two operands of the type.
-fn is_minimum(ret: &IrType, callee: &[u8]) -> bool {
+fn is_minimum(ret: &IrType, callee: &[u8]) -> bool
+    ensures { result ≡ kinds.is_minimum ret.now callee.now }
+{
     let IrType::Int(width) = ret else {
         return false;
     };
     let mut buffer = Buffer::new();
     let digits = buffer.format(*width).as_bytes();
     match callee.strip_suffix(digits) {
-        Some(front) => {
-            front == b"llvm.umin.i" || front == b"llvm.umax.i" || front == b"llvm.smin.i" || front == b"llvm.smax.i"
-        }
+        Some(front) => is_minimum_kind(front),
         None => false,
     }
+}
+
+/// Whether a text is the name of a minimum or a maximum up to its width.
+fn is_minimum_kind(front: &[u8]) -> bool
+    ensures { result ≡ list_any (bytes_eq front.now)
+        (codes "llvm.umin.i" ∷ codes "llvm.umax.i" ∷ codes "llvm.smin.i" ∷ codes "llvm.smax.i" ∷ []) }
+{
+    front == b"llvm.umin.i".as_slice()
+        || front == b"llvm.umax.i".as_slice()
+        || front == b"llvm.smin.i".as_slice()
+        || front == b"llvm.smax.i".as_slice()
 }
 
 /// Whether what a `ret` gives is of the function's type; each other operation fits.

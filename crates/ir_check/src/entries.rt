@@ -1,8 +1,10 @@
 //! Entries of phis, which are the edges into their blocks.
 
 ghost use Rattle.std.specs.Prelude.{◌≡◌, slice_get, IfOk};
+ghost use Rattle.ir_model.specs.WellMade.{HasIds};
 ghost use Rattle.ir_rules.specs.Blocks as blocks;
 
+use crate::cases::same_number;
 use crate::instrs::place_of;
 use flow_graph::Edges;
 use indexmap::IndexMap;
@@ -12,6 +14,7 @@ use std::alloc::{AllocError, Global};
 
 /// The first phi whose entries aren't those of its block's edges.
 pub(crate) fn bad_entries(alloc: Global, f: &Function) -> Result<Option<Place>, AllocError>
+    requires ids { HasIds f.now }
     ensures { IfOk result (λ found. found ≡ slice_get (blocks.bad_entries f.now) 0) }
 {
     let edges = Edges::new(alloc, f)?;
@@ -26,7 +29,7 @@ pub(crate) fn bad_entries(alloc: Global, f: &Function) -> Result<Option<Place>, 
 
 /// The first such phi of a block.
 fn bad_in_block(alloc: Global, edges: &Edges, block: &Block) -> Result<Option<Place>, AllocError> {
-    let sources = sorted_sources(alloc, edges.preds(block.id))?;
+    let sources = sorted(alloc, edges.preds(block.id))?;
     for instr in block.instrs.as_slice() {
         if let Op::Phi { kind, entries } = &instr.op {
             if !entries_fit(alloc, kind, entries.as_slice(), &sources)? {
@@ -38,13 +41,13 @@ fn bad_in_block(alloc: Global, edges: &Edges, block: &Block) -> Result<Option<Pl
 }
 
 /// The numbers of blocks, in order.
-fn sorted_sources(alloc: Global, blocks: &[BlockId]) -> Result<Vec<u64>, AllocError> {
-    let mut numbers = Vec::new(alloc);
+fn sorted(alloc: Global, blocks: &[BlockId]) -> Result<Vec<u64>, AllocError> {
+    let mut sorted = Vec::new(alloc);
     for block in blocks {
-        numbers.push(block.0)?;
+        sorted.push(block.0)?;
     }
-    numbers.sort_unstable();
-    Ok(numbers)
+    sorted.sort_unstable();
+    Ok(sorted)
 }
 
 /// Whether the entries of a phi are one for each edge, and those from one block have one operand.
@@ -86,7 +89,7 @@ fn same_operand(kind: &IrType, left: &Operand, right: &Operand) -> bool
 {
     match (left, right) {
         (Operand::Reg(v), Operand::Reg(w)) => v.0 == w.0,
-        (Operand::Num(m), Operand::Num(n)) => low_bits(kind, *m) == low_bits(kind, *n),
+        (Operand::Num(m), Operand::Num(n)) => same_number(kind, *m, *n),
         (Operand::Global(g), Operand::Global(h)) => g == h,
         (Operand::Null, Operand::Null)
         | (Operand::Undef, Operand::Undef)
@@ -94,5 +97,3 @@ fn same_operand(kind: &IrType, left: &Operand, right: &Operand) -> bool
         _ => false,
     }
 }
-
-use crate::cases::low_bits;

@@ -1,12 +1,17 @@
 //! The rules of a function's shape.
 
-ghost use Rattle.std.specs.Prelude.{◌≡◌, Some, None, slice_get, OnOk, IfOk};
-ghost use Rattle.ir_model.specs.WellMade.{IsWellMade};
+ghost use Rattle.std.specs.Prelude.{◌≡◌, [], Some, None, Err, slice_get, drop, OnOk, IfOk};
+ghost use Rattle.ir_model.specs.WellMade.{HasIds};
+ghost use Rattle.ir_model.specs.declared.rule.Rule.{Rule as AnyRule};
+ghost use Rattle.ir_model.specs.declared.rule.Place.{Place as AnyPlace};
+ghost use Rattle.ir_rules.specs.Names.{duplicate_names};
+ghost use Rattle.ir_rules.specs.Types.{bad_widths};
 ghost use Rattle.ir_rules.specs.Rules.{broken, first_broken};
+ghost use Rattle.ir_check.specs.Function.{later_rules, first_later, IsFound};
 
 use crate::callees::Callees;
 use crate::defined::{Names, definitions};
-use crate::edges::{entry_target, late_phi};
+use crate::edges::{entry_of, entry_target, late_phi};
 use crate::entries::bad_entries;
 use crate::ill::Ill;
 use crate::instrs::first_breaking;
@@ -14,13 +19,10 @@ use crate::limits::past_limit;
 use crate::undefined::first_undefined;
 use crate::widths::{bad_param, is_wide};
 use ir_model::{Function, Place, Rule};
-use scev_base::BlockId;
 use std::alloc::{AllocError, Global};
 
-/// The rules, in the order in which they are looked at.
-const SHAPE_RULES: [Rule; 14] = [
-    Rule::DuplicateName,
-    Rule::UndefinedName,
+/// The rules behind those on names, in the order in which they are looked at.
+const LATER_RULES: [Rule; 12] = [
     Rule::TypeMismatch,
     Rule::LiteralOutOfRange,
     Rule::BadWidth,
@@ -38,26 +40,67 @@ const SHAPE_RULES: [Rule; 14] = [
 /// Looks at the rules of a function's shape. `Ok` comes exactly where none of them is broken, `Broken` with the first
 /// one that is and its first place in text order. The rule on uses and definitions isn't among them.
 ///
-/// Time linear in the function, beside the order of a block's edges.
-pub fn check_function(alloc: Global, callees: &Callees<'_>, f: &Function) -> Result<(), Ill> {
-    for rule in SHAPE_RULES {
-        if let Some(place) = first_place(alloc, rule, callees, f)? {
-            return Err(Ill::Broken { rule, place });
-        }
+/// Time linear in the function, beside the sorting of the edges into a block and of a phi's entries.
+pub fn check_function(alloc: Global, callees: &Callees<'_>, f: &Function) -> Result<(), Ill>
+    requires ids { HasIds f.now }
+    ensures accepted { OnOk result (first_broken callees.now f.now ≡ None) }
+    ensures refused { (rule : AnyRule) (place : AnyPlace) → result ≡ Err (Ill.Broken rule place)
+        → first_broken callees.now f.now ≡ Some (rule, place) }
+{
+    match first_fault(alloc, callees, f)? {
+        Some((rule, place)) => Err(Ill::Broken { rule, place }),
+        None => Ok(()),
     }
-    Ok(())
 }
 
-/// The first place at which a function breaks a rule.
+/// The first rule that a function breaks, with its first place.
+fn first_fault(
+    alloc: Global,
+    callees: &Callees<'_>,
+    f: &Function,
+) -> Result<Option<(Rule, Place)>, AllocError>
+    requires ids { HasIds f.now }
+    ensures { IfOk result (λ found. found ≡ first_broken callees.now f.now) }
+{
+    let defined = match definitions(alloc, f)? {
+        Names::Once(defined) => defined,
+        Names::Again(place) => return Ok(Some((Rule::DuplicateName, place))),
+    };
+    match first_undefined(&defined, callees.globals(), f) {
+        Some(place) => Ok(Some((Rule::UndefinedName, place))),
+        None => later_fault(alloc, callees, f),
+    }
+}
+
+/// The first of the later rules that a function breaks, with its first place.
+fn later_fault(
+    alloc: Global,
+    callees: &Callees<'_>,
+    f: &Function,
+) -> Result<Option<(Rule, Place)>, AllocError>
+    requires ids { HasIds f.now }
+    ensures { IfOk result (λ found. found ≡ first_later callees.now f.now later_rules) }
+{
+    for rule in LATER_RULES {
+        match first_place(alloc, rule, callees, f)? {
+            Some(place) => return Ok(Some((rule, place))),
+            None => {}
+        }
+    }
+    Ok(None)
+}
+
+/// The first place at which a function breaks a rule, one of the later ones.
 fn first_place(
     alloc: Global,
     rule: Rule,
     callees: &Callees<'_>,
     f: &Function,
-) -> Result<Option<Place>, AllocError> {
+) -> Result<Option<Place>, AllocError>
+    requires ids { HasIds f.now }
+    ensures { IfOk result (λ found. IsFound callees.now f.now rule found) }
+{
     match rule {
-        Rule::DuplicateName => duplicate(alloc, f),
-        Rule::UndefinedName => undefined(alloc, callees, f),
         Rule::BadWidth => bad_width(alloc, callees, f),
         Rule::EntryHasPredecessor => Ok(entry_target(f)),
         Rule::PhiNotFirst => Ok(late_phi(f)),
@@ -67,37 +110,19 @@ fn first_place(
     }
 }
 
-/// The first place at which a name is defined again.
-fn duplicate(alloc: Global, f: &Function) -> Result<Option<Place>, AllocError> {
-    match definitions(alloc, f)? {
-        Names::Once(_) => Ok(None),
-        Names::Again(place) => Ok(Some(place)),
-    }
-}
-
-/// The first use of a name that isn't defined, where each is defined once.
-fn undefined(alloc: Global, callees: &Callees<'_>, f: &Function) -> Result<Option<Place>, AllocError> {
-    match definitions(alloc, f)? {
-        Names::Once(defined) => Ok(first_undefined(&defined, callees.globals(), f)),
-        Names::Again(_) => Ok(None),
-    }
-}
-
 /// The first width that its place doesn't allow: that of the return type, of a parameter, or of an instruction.
-fn bad_width(alloc: Global, callees: &Callees<'_>, f: &Function) -> Result<Option<Place>, AllocError> {
+fn bad_width(
+    alloc: Global,
+    callees: &Callees<'_>,
+    f: &Function,
+) -> Result<Option<Place>, AllocError>
+    ensures { IfOk result (λ found. found ≡ slice_get (bad_widths f.now) 0) }
+{
     if !is_wide(&f.ret) {
-        return Ok(Some(Place::BlockAt(entry_of(f))));
+        return Ok(Some(Place::BlockAt(entry_of(f.blocks.as_slice()))));
     }
-    if let Some(place) = bad_param(f.params.as_slice()) {
-        return Ok(Some(place));
-    }
-    first_breaking(alloc, Rule::BadWidth, callees, f)
-}
-
-/// The number of the first block.
-pub(crate) fn entry_of(f: &Function) -> BlockId {
-    match f.blocks.as_slice().first() {
-        Some(block) => block.id,
-        None => BlockId(0),
+    match bad_param(f.params.as_slice()) {
+        Some(place) => Ok(Some(place)),
+        None => first_breaking(alloc, Rule::BadWidth, callees, f),
     }
 }

@@ -1,9 +1,10 @@
 //! Rules that look at one instruction after another.
 
 ghost use Rattle.std.specs.Prelude.{◌≡◌, slice_get, IfOk};
-ghost use Rattle.ir_rules.specs.Spots.{named_by};
+ghost use Rattle.ir_rules.specs.Spots.{spots, block_spots, named_by};
 ghost use Rattle.ir_rules.specs.Values as values;
-ghost use Rattle.ir_check.specs.Places.{breaks, breaking};
+ghost use Rattle.ir_model.specs.Shapes as shapes;
+ghost use Rattle.ir_check.specs.Instrs.{breaks, breaking_spots, gives_none};
 
 use crate::callees::Callees;
 use crate::calls::{call_fits, returns};
@@ -23,6 +24,7 @@ pub(crate) fn first_breaking(
     callees: &Callees<'_>,
     f: &Function,
 ) -> Result<Option<Place>, AllocError>
+    ensures { IfOk result (λ found. found ≡ slice_get (breaking_spots callees.now f.now rule (spots f.now)) 0) }
 {
     for block in f.blocks.as_slice() {
         match first_in_block(alloc, rule, callees, f, block)? {
@@ -41,6 +43,8 @@ fn first_in_block(
     f: &Function,
     block: &Block,
 ) -> Result<Option<Place>, AllocError>
+    ensures { IfOk result (λ found.
+        found ≡ slice_get (breaking_spots callees.now f.now rule (block_spots block.now)) 0) }
 {
     for instr in block.instrs.as_slice() {
         if is_breaking(alloc, rule, callees, f, instr)? {
@@ -58,6 +62,7 @@ fn is_breaking(
     f: &Function,
     instr: &Instr,
 ) -> Result<bool, AllocError>
+    ensures { IfOk result (λ broken. broken ≡ breaks callees.now f.now rule instr.now) }
 {
     let breaks = match rule {
         Rule::TypeMismatch => !types_fit(f, &instr.op),
@@ -82,7 +87,7 @@ fn is_void_value(instr: &Instr) -> bool
 
 /// Whether an operation gives no value.
 fn gives_none(op: &Op) -> bool
-    ensures { result ≡ values.gives_none op.now }
+    ensures { result ≡ gives_none op.now }
 {
     match op {
         Op::Binary { kind, .. }
@@ -99,7 +104,7 @@ fn gives_none(op: &Op) -> bool
 
 /// Whether a type is `void`.
 fn is_void(kind: &IrType) -> bool
-    ensures { result ≡ values.is_void kind.now }
+    ensures { result ≡ shapes.is_void kind.now }
 {
     matches!(kind, IrType::Void)
 }

@@ -1,11 +1,10 @@
 //! Types compared.
 
-ghost use Rattle.std.specs.Prelude.{◌≡◌, List, map};
-ghost use Rattle.ir_model.specs.declared.op.TypedOperand.{TypedOperand};
+ghost use Rattle.std.specs.Prelude.{◌≡◌};
 ghost use Rattle.ir_rules.specs.Types as types;
 ghost use Rattle.ir_rules.specs.Values as values;
 
-use ir_model::{Function, IrType, TypedOperand};
+use ir_model::{IrType, TypedOperand};
 
 /// Whether a type is an integer.
 pub(crate) fn is_int(kind: &IrType) -> bool

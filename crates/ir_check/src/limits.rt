@@ -1,7 +1,8 @@
 //! Limits of size.
 
-ghost use Rattle.std.specs.Prelude.{◌≡◌, ◌≤◌, slice_get};
+ghost use Rattle.std.specs.Prelude.{◌≡◌, ◌≤◌, ◌&&◌, nat_lt, slice_get};
 ghost use Rattle.ir_rules.specs.Limits as limits;
+ghost use Rattle.ir_check.specs.Instrs.{capped};
 
 use crate::instrs::place_of;
 use ir_model::{Block, Function, Instr, IrType, Op, Place};
@@ -20,6 +21,7 @@ const BLOCKS: usize = 1024;
 const INSTRS: usize = 8192;
 
 /// The first block or instruction of a function that is past a limit.
+#[tactic(auto, using(crate::proofs::FirstPlaces::rest_at, crate::proofs::LimitLemmas::block_steps))]
 pub(crate) fn past_limit(f: &Function) -> Option<Place>
     ensures { result ≡ slice_get (limits.past_limits f.now) 0 }
 {
@@ -38,16 +40,24 @@ pub(crate) fn past_limit(f: &Function) -> Option<Place>
 }
 
 /// The first instruction of a block that is past a limit, where so many stand before the block.
+#[tactic(auto, using(crate::proofs::FirstPlaces::rest_at, crate::proofs::LimitLemmas::instr_steps))]
 fn past_in(b: BlockId, before: usize, instrs: &[Instr]) -> Option<Place>
     requires { before ≤ 8192 }
     ensures { result ≡ slice_get (limits.instrs_past b.0 before instrs.now) 0 }
 {
     for (at, instr) in instrs.iter().enumerate() {
-        if before + at >= INSTRS || !types_within(&instr.op) {
+        if !may_stand(before + at, &instr.op) {
             return Some(place_of(b, instr));
         }
     }
     None
+}
+
+/// Whether an operation may stand behind so many instructions.
+fn may_stand(before: usize, op: &Op) -> bool
+    ensures { result ≡ (nat_lt before limits.instr_limit && limits.types_within op.now) }
+{
+    before < INSTRS && types_within(op)
 }
 
 /// Whether the types that an operation lays out in memory are within the limits.
@@ -74,7 +84,7 @@ pub(crate) fn is_within(kind: &IrType) -> bool
 
 /// The bytes of an array, where they are at most 2^31; more than 2^31, where they are.
 fn capped_size(dims: &[u64], width: u32) -> u128
-    ensures { result ≡ limits.capped (limits.array_size dims.now width) }
+    ensures { result ≡ capped (limits.array_size dims.now width) }
 {
     let mut size = int_size(width);
     for dim in dims {

@@ -1,7 +1,14 @@
 //! Names that are used and not defined.
 
-ghost use Rattle.std.specs.Prelude.{◌≡◌, slice_get, IfOk};
+ghost use Rattle.std.specs.Prelude.{◌≡◌, [], ◌∷◌, slice_get};
+ghost use Rattle.std.specs.List.{flat_map};
+ghost use Rattle.std.specs.Option.{option_or};
+ghost use Rattle.ir_model.specs.declared.op.Case.{Case};
+ghost use Rattle.ir_model.specs.declared.signature.Signatures.{Signatures};
+ghost use Rattle.ir_model.specs.Sites.{UsesBlock, operand_sites, typed_sites, entry_sites, op_sites};
 ghost use Rattle.ir_rules.specs.Names as names;
+ghost use Rattle.ir_check.specs.Definitions.{Defines};
+ghost use Rattle.ir_check.specs.Undefined.{first_at, undefined_block};
 
 use crate::defined::Defined;
 use crate::instrs::place_of;
@@ -9,6 +16,7 @@ use ir_model::{Block, Case, Function, Instr, Op, Operand, PhiEntry, Place, Typed
 use scev_base::BlockId;
 
 /// What an instruction may name: the values and blocks that are defined, so many globals, and its own place.
+#[derive(Drop)]
 struct Scope<'a> {
     defined: &'a Defined,
     globals: u64,
@@ -16,8 +24,12 @@ struct Scope<'a> {
     own: Place,
 }
 
-/// The first use of a name that isn't defined.
-pub(crate) fn first_undefined(defined: &Defined, globals: u64, f: &Function) -> Option<Place> {
+/// The first use of a name that isn't defined, where the rows tell what the function defines.
+pub(crate) fn first_undefined(defined: &Defined, globals: u64, f: &Function) -> Option<Place>
+    requires { Defines defined.now f.now }
+    ensures { (signatures : Signatures) → signatures.globals ≡ globals
+        → result ≡ slice_get (names.undefined_names signatures f.now) 0 }
+{
     for block in f.blocks.as_slice() {
         match undefined_in_block(defined, globals, block) {
             Some(place) => return Some(place),
@@ -28,7 +40,9 @@ pub(crate) fn first_undefined(defined: &Defined, globals: u64, f: &Function) -> 
 }
 
 /// The first such use of a block.
-fn undefined_in_block(defined: &Defined, globals: u64, block: &Block) -> Option<Place> {
+fn undefined_in_block(defined: &Defined, globals: u64, block: &Block) -> Option<Place>
+    ensures { result ≡ slice_get (undefined_block defined.now globals block.now) 0 }
+{
     for instr in block.instrs.as_slice() {
         let scope = Scope {
             defined,
@@ -45,7 +59,10 @@ fn undefined_in_block(defined: &Defined, globals: u64, block: &Block) -> Option<
 }
 
 /// The first such use of an operation, in text order.
-fn undefined_in_op(scope: &Scope<'_>, op: &Op) -> Option<Place> {
+#[tactic(auto, using(crate::proofs::UndefinedSites::site_lists))]
+fn undefined_in_op(scope: &Scope<'_>, op: &Op) -> Option<Place>
+    ensures { result ≡ first_at scope.now (op_sites op.now) }
+{
     match op {
         Op::Binary { left, right, .. } | Op::Icmp { left, right, .. } => {
             or_else(operand(scope, left), operand(scope, right))
@@ -67,7 +84,12 @@ fn undefined_in_op(scope: &Scope<'_>, op: &Op) -> Option<Place> {
             operand(scope, cond),
             or_else(target(scope, *yes), target(scope, *no)),
         ),
-        Op::Switch { value, other, cases, .. } => or_else(
+        Op::Switch {
+            value,
+            other,
+            cases,
+            ..
+        } => or_else(
             operand(scope, value),
             or_else(target(scope, *other), in_cases(scope, cases.as_slice())),
         ),
@@ -77,7 +99,9 @@ fn undefined_in_op(scope: &Scope<'_>, op: &Op) -> Option<Place> {
 }
 
 /// The first place of two, where there is one.
-fn or_else(first: Option<Place>, second: Option<Place>) -> Option<Place> {
+fn or_else(first: Option<Place>, second: Option<Place>) -> Option<Place>
+    ensures { result ≡ option_or first second }
+{
     match first {
         Some(place) => Some(place),
         None => second,
@@ -85,7 +109,10 @@ fn or_else(first: Option<Place>, second: Option<Place>) -> Option<Place> {
 }
 
 /// The place of an operand that isn't defined.
-fn operand(scope: &Scope<'_>, value: &Operand) -> Option<Place> {
+#[tactic(auto, using(crate::proofs::UndefinedSites::operand_steps))]
+fn operand(scope: &Scope<'_>, value: &Operand) -> Option<Place>
+    ensures { result ≡ first_at scope.now (operand_sites value.now) }
+{
     match value {
         Operand::Reg(v) => {
             if scope.defined.has_value(*v) {
@@ -95,19 +122,32 @@ fn operand(scope: &Scope<'_>, value: &Operand) -> Option<Place> {
             }
         }
         Operand::Global(g) => {
-            if *g < scope.globals { None } else { Some(scope.own) }
+            if *g < scope.globals {
+                None
+            } else {
+                Some(scope.own)
+            }
         }
         Operand::Num(_) | Operand::Null | Operand::Undef | Operand::Poison => None,
     }
 }
 
 /// The place of a target that isn't defined.
-fn target(scope: &Scope<'_>, b: BlockId) -> Option<Place> {
-    if scope.defined.has_block(b) { None } else { Some(Place::BlockAt(b)) }
+#[tactic(auto, using(crate::proofs::UndefinedSites::target_steps))]
+fn target(scope: &Scope<'_>, b: BlockId) -> Option<Place>
+    ensures { result ≡ first_at scope.now (UsesBlock b.0 ∷ []) }
+{
+    if scope.defined.has_block(b) {
+        None
+    } else {
+        Some(Place::BlockAt(b))
+    }
 }
 
 /// The first such use of operands.
-fn in_operands(scope: &Scope<'_>, operands: &[TypedOperand]) -> Option<Place> {
+fn in_operands(scope: &Scope<'_>, operands: &[TypedOperand]) -> Option<Place>
+    ensures { result ≡ first_at scope.now (flat_map typed_sites operands.now) }
+{
     for typed in operands {
         match operand(scope, &typed.value) {
             Some(place) => return Some(place),
@@ -118,9 +158,12 @@ fn in_operands(scope: &Scope<'_>, operands: &[TypedOperand]) -> Option<Place> {
 }
 
 /// The first such use of a phi's entries.
-fn in_entries(scope: &Scope<'_>, entries: &[PhiEntry]) -> Option<Place> {
+#[tactic(auto, using(crate::proofs::UndefinedSites::at_entry))]
+fn in_entries(scope: &Scope<'_>, entries: &[PhiEntry]) -> Option<Place>
+    ensures { result ≡ first_at scope.now (flat_map entry_sites entries.now) }
+{
     for entry in entries {
-        match or_else(operand(scope, &entry.value), target(scope, entry.from)) {
+        match in_entry(scope, entry) {
             Some(place) => return Some(place),
             None => {}
         }
@@ -128,8 +171,18 @@ fn in_entries(scope: &Scope<'_>, entries: &[PhiEntry]) -> Option<Place> {
     None
 }
 
+/// The first such use of an entry.
+#[tactic(auto, using(crate::proofs::UndefinedSites::at_both))]
+fn in_entry(scope: &Scope<'_>, entry: &PhiEntry) -> Option<Place>
+    ensures { result ≡ first_at scope.now (entry_sites entry.now) }
+{
+    or_else(operand(scope, &entry.value), target(scope, entry.from))
+}
+
 /// The first such use of a switch's cases.
-fn in_cases(scope: &Scope<'_>, cases: &[Case]) -> Option<Place> {
+fn in_cases(scope: &Scope<'_>, cases: &[Case]) -> Option<Place>
+    ensures { result ≡ first_at scope.now (flat_map (λ (c : Case). UsesBlock c.to.0 ∷ []) cases.now) }
+{
     for case in cases {
         match target(scope, case.to) {
             Some(place) => return Some(place),

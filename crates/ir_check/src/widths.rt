@@ -1,10 +1,11 @@
 //! Widths of types.
 
 ghost use Rattle.std.specs.Prelude.{◌≡◌, slice_get};
+ghost use Rattle.std.specs.List.{list_all};
 ghost use Rattle.ir_rules.specs.Types as types;
 
 use crate::kinds::{is_int, width_of};
-use ir_model::{CastOp, IrType, Op, Param, Place};
+use ir_model::{Case, CastOp, IrType, Op, Param, Place, TypedOperand};
 
 /// Whether an operation's widths are those that its places allow.
 pub(crate) fn widths_fit(op: &Op) -> bool
@@ -16,16 +17,26 @@ pub(crate) fn widths_fit(op: &Op) -> bool
         Op::Cast { op, from, to, .. } => is_wide(from) && is_wide(to) && converts(*op, from, to),
         Op::Select { yes, no, .. } => is_wide(&yes.kind) && is_wide(&no.kind),
         Op::Load { kind, .. } | Op::Store { kind, .. } => is_whole(kind),
-        Op::Gep { kind, indices, .. } => {
-            is_wide(kind) && indices.as_slice().iter().all(|index| is_wide(&index.kind))
-        }
-        Op::Call { ret, args, .. } => is_wide(ret) && args.as_slice().iter().all(|arg| is_wide(&arg.kind)),
-        Op::Switch { kind, cases, .. } => {
-            is_wide(kind) && cases.as_slice().iter().all(|case| is_wide(&case.kind))
-        }
+        Op::Gep { kind, indices, .. } => is_wide(kind) && all_wide(indices.as_slice()),
+        Op::Call { ret, args, .. } => is_wide(ret) && all_wide(args.as_slice()),
+        Op::Switch { kind, cases, .. } => is_wide(kind) && cases_wide(cases.as_slice()),
         Op::Ret { value: Some(typed) } => is_wide(&typed.kind),
         Op::Jump { .. } | Op::Branch { .. } | Op::Ret { value: None } | Op::Unreachable => true,
     }
+}
+
+/// Whether the types of operands have widths that are allowed.
+fn all_wide(operands: &[TypedOperand]) -> bool
+    ensures { result ≡ list_all (λ typed. types.is_wide typed.kind) operands.now }
+{
+    operands.iter().all(|typed| is_wide(&typed.kind))
+}
+
+/// Whether the types of cases do.
+fn cases_wide(cases: &[Case]) -> bool
+    ensures { result ≡ list_all (λ one. types.is_wide one.kind) cases.now }
+{
+    cases.iter().all(|case| is_wide(&case.kind))
 }
 
 /// Whether a conversion leads from an integer to a strictly wider or narrower one.

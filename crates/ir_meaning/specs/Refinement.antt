@@ -16,6 +16,7 @@ use Rattle.ir_meaning.specs.declared.phase.Phase.{Phase}
 use Rattle.ir_meaning.specs.declared.phase.Phase.TheVariants as phase
 use Rattle.ir_meaning.specs.State.{State, Event, Registers, is_running}
 use Rattle.ir_meaning.specs.Operands.{operand_value}
+use Rattle.ir_model.specs.Kinds.{is_minimum}
 use Rattle.ir_model.specs.Shapes.{block_of}
 use Rattle.ir_meaning.specs.Step.{instr_at}
 use Rattle.ir_meaning.specs.declared.choice.Choice.{Choice}
@@ -58,19 +59,10 @@ RefinesPhase phase.Stopped phase.Stopped = Unit {0}
 RefinesPhase phase.Stuck phase.Stuck = Unit {0}
 RefinesPhase _ _ = ⊥
 
--- whether a callee's name begins with the letters
-abbrev pub begins : List ℕ → List ℕ → Bool
-begins letters name = bytes_eq (take (length letters) name) letters
-
--- whether a call is of one of the four minima and maxima, which the outside doesn't see
-abbrev pub is_minimum : List ℕ → Bool
-is_minimum callee =
-    begins (codes "llvm.umin.i") callee || begins (codes "llvm.umax.i") callee
-    || begins (codes "llvm.smin.i") callee || begins (codes "llvm.smax.i") callee
-
--- the call of the outside at which a running state stands: the callee, and the operands
+-- the call of the outside at which a running state stands: the callee, and the operands; the outside sees no call of a
+-- minimum or a maximum
 abbrev pub call_of : Op → Option (List ℕ × List TypedOperand)
-call_of (Call ret callee args) = cond (is_minimum callee) None (Some (callee, args))
+call_of (Call ret callee args) = cond (is_minimum ret callee) None (Some (callee, args))
 call_of _ = None
 
 abbrev pub call_at : Function → State → Option (List ℕ × List TypedOperand)

@@ -1,5 +1,5 @@
 -- The ids of a module that a text spells stand in the tables of its functions.
-use Rattle.std.proofs.Common.{◌≡◌, ℕ, ◌<◌, List, [], ◌∷◌, length, map, slice_get, Option, Some, None, All, sym, ap, ◌∙◌, subst}
+use Rattle.std.proofs.Common.{◌≡◌, ℕ, ◌<◌, List, [], ◌∷◌, length, map, slice_get, Some, All, sym, ap, ◌∙◌, subst}
 use Rattle.std.proofs.lemmas.List.{length-map}
 use Rattle.std.proofs.lemmas.List.Elements.{All-nil, All-cons}
 use Rattle.std.proofs.lemmas.Option.{slice_get_within}
@@ -45,7 +45,7 @@ same_length : {A B C : Type 0} (g : A → C) (h : B → C) (xs : List A) (ys : L
     → length ys ≡ length xs
 same_length g h xs ys e = sym (length-map ys h) ∙ (sym (ap length e) ∙ length-map xs g)
 
-function_has_ids : (globals : List (List ℕ)) (ms : List Mention) (f : Function) → IsNumbered globals ms f → HasIds f
+pub function_has_ids : (globals : List (List ℕ)) (ms : List Mention) (f : Function) → IsNumbered globals ms f → HasIds f
 unfolding HasIds
 function_has_ids globals ms f n =
     let tables = tables_of globals (named 0 ms) in

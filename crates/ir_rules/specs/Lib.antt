@@ -7,3 +7,4 @@ pub mod Limits
 pub mod Items
 pub mod Uses
 pub mod Rules
+pub mod Accepted

@@ -1,19 +1,17 @@
 -- The rules in their order, and the first one that is broken.
-use Rattle.std.specs.Prelude.{◌≡◌, ℕ, List, [], ◌∷◌, Option, Some, None, map}
+use Rattle.std.specs.Prelude.{List, [], ◌∷◌, Option, Some, None, map}
 use Rattle.ir_model.specs.declared.function.Function.{Function}
 use Rattle.ir_model.specs.declared.item.Module.{Module}
 use Rattle.ir_model.specs.declared.signature.Signatures.{Signatures}
 use Rattle.ir_model.specs.declared.rule.Rule.{Rule}
 use Rattle.ir_model.specs.declared.rule.Rule.TheVariants.{DuplicateName, UndefinedName, TypeMismatch, LiteralOutOfRange, BadWidth, EntryHasPredecessor, PhiNotFirst, PhiEntries, VoidValue, DuplicateCase, PointerPredicate, CallMismatch, ReturnType, Limit, UseBeforeDef}
 use Rattle.ir_model.specs.declared.rule.Place.{Place}
-use Rattle.ir_model.specs.Places.{signatures_of}
 use Rattle.ir_rules.specs.Names.{duplicate_names, undefined_names}
 use Rattle.ir_rules.specs.Types.{type_mismatches, literals_out_of_range, bad_widths}
 use Rattle.ir_rules.specs.Blocks.{entry_targets, late_phis, bad_entries}
 use Rattle.ir_rules.specs.Values.{void_values, duplicate_cases, pointer_predicates, call_mismatches, bad_returns}
 use Rattle.ir_rules.specs.Limits.{past_limits}
 use Rattle.ir_rules.specs.Items.{items_where, duplicate_items, is_mistyped, is_out_of_range, has_bad_width, items_past}
-use Rattle.ir_rules.specs.Uses.{UsesAreDefined}
 
 -- the places at which a function breaks a rule, in text order; the rule on uses is one on walks, and stands apart
 abbrev pub broken : Signatures → Function → Rule → List Place
@@ -65,11 +63,3 @@ first_broken signatures f = first_of (broken signatures f) shape_rules
 
 abbrev pub first_item_broken : Module → Option (Rule × Place)
 first_item_broken m = first_of (items_broken m) item_rules
-
--- The rules of shape hold of a function; and with them that on uses.
-abbrev pub HasShape : Signatures → Function → Type 0
-HasShape signatures f = first_broken signatures f ≡ None
-
-pub record IsAccepted (signatures : Signatures) (f : Function) : Type 0 where
-  pub shape : HasShape signatures f
-  pub uses : UsesAreDefined f

@@ -1,4 +1,4 @@
-use Rattle.std.proofs.Common.{◌≡◌, ◌<◌, ◌≤◌, ◌*◌, ◌∙◌, length, sym, ap, arith}
+use Rattle.std.proofs.Common.{◌<◌, ◌≤◌, ◌*◌, ◌∙◌, length, sym, ap, arith}
 use Rattle.std.proofs.lemmas.List.{get_or_read}
 use Rattle.std.specs.Prelude.{bit_and}
 use Rattle.bit_rows.proofs.BitLemmas.{length-bits_of, same_count, bits_of-and, IsMerged-more}
@@ -36,7 +36,7 @@ returns-clause-count c =
 pub returns-clause-bits : goal.returns-clause-bits
 returns-clause-bits c =
     let same = same_count _ _ _ _ _ _ c.self.view_is c.other.view_is c.requires in
-    let inside = c.self.inside in
-    let room : inside.count ≤ c.loop-k.k * 64 = omega (arith, inside.words.ok.0) in
+    let count = c.self.inside.count in
+    let room : count ≤ c.loop-k.k * 64 = omega (arith, c.self.inside.words.ok.0) in
     rw (c.loop-k.invariant.count, ← c.self.view_is, ← c.other.view_is, ← same)
-    (bits_of-and inside.words.items c.other.inside.words.items c.loop-k.self-inside.words.items inside.count c.loop-k.k c.loop-k.invariant.merged room)
+    (bits_of-and _ _ _ count c.loop-k.k c.loop-k.invariant.merged room)

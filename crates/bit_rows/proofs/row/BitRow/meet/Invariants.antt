@@ -1,5 +1,5 @@
 use Rattle.std.proofs.Common.{◌≡◌}
-use Rattle.std.specs.Prelude.{bit_and, vec_len}
+use Rattle.std.specs.Prelude.{bit_and}
 use Rattle.bit_rows.proofs.BitLemmas.{IsMerged}
 use Rattle.bit_rows.proofs.row.BitRow.meet.Given as goal
 
