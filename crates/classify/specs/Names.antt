@@ -8,7 +8,7 @@ use Rattle.ir_model.specs.declared.op.Op.TheVariants.{Binary, Icmp, Cast, Select
 use Rattle.ir_model.specs.declared.function.Instr.{Instr}
 use Rattle.ir_model.specs.declared.function.Block.{Block}
 use Rattle.ir_model.specs.declared.function.Function.{Function}
-use Rattle.ir_model.specs.Shapes.{targets}
+use Rattle.ir_model.specs.Shapes.{defined_values, used_values, defined_blocks, used_blocks}
 
 -- Each name that is defined or used is defined once.
 abbrev pub AreOnce : List ℕ → List ℕ → Type 0
