@@ -12,7 +12,7 @@ use Rattle.ir_meaning.specs.declared.phase.Phase.TheVariants as phase
 use Rattle.ir_meaning.specs.State.{Registers}
 use Rattle.ir_meaning.specs.Operands.{operand_value}
 use Rattle.ir_meaning.specs.Rows.{binary_row}
-use Rattle.ir_meaning.specs.Step.{Effect, Gives, Enters, Ends, with_value, branched, given, arm_value, chosen_arm, switched, effect}
+use Rattle.ir_meaning.specs.Step.{Effect, Gives, Ends, with_value, branched, given, arm_value, chosen_arm, switched, effect}
 
 abbrev RunsNoMore : Effect → Type 0
 RunsNoMore e = e ≡ Ends phase.Running → ⊥
@@ -39,7 +39,7 @@ arms_end registers n left right false = arm_ends registers n left
 
 chosen_ends : (registers : Registers) (n : ℕ) (left right : TypedOperand) (c : Value) → RunsNoMore (chosen_arm registers n left right c)
 chosen_ends registers n left right (value.Number c) = arms_end registers n left right (c == 0)
-chosen_ends registers n left right _ e = cc
+chosen_ends registers n left right _ = λ e. cc
 
 branched_ends : (c : Value) (there else_there : ℕ) → RunsNoMore (branched c there else_there)
 branched_ends (value.Number c) there else_there e = cc
@@ -64,11 +64,11 @@ effect_ends registers n (Select cond left right) =
     with_value_ends (operand_value registers n (Int 1) cond) _ (λ c. chosen_ends registers n left right c)
 effect_ends registers n (Switch (Int w) operand other cases) =
     with_value_ends (operand_value registers n (Int w) operand) _ (λ x. switched_ends w cases other.0 x)
-effect_ends registers n (Jump to) e = cc
+effect_ends registers n (Jump to) = λ e. cc
 effect_ends registers n (Branch cond there else_there) =
     with_value_ends (operand_value registers n (Int 1) cond) _ (λ c. branched_ends c there.0 else_there.0)
-effect_ends registers n (Ret None) e = cc
+effect_ends registers n (Ret None) = λ e. cc
 effect_ends registers n (Ret (Some typed)) =
     with_value_ends (operand_value registers n typed.kind typed.value) _ (λ x e. cc)
-effect_ends registers n Unreachable e = cc
-effect_ends registers n _ e = cc
+effect_ends registers n Unreachable = λ e. cc
+effect_ends registers n _ = λ e. cc

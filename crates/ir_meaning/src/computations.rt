@@ -69,7 +69,14 @@ pub(crate) fn effect_of_icmp(
         (Icmp pred kind.now left.now right.now) }
 {
     match kind {
-        IrType::Int(bits) => icmp_of_integers(registers, n, pred, Width { bits: *bits }, left, right),
+        IrType::Int(bits) => icmp_of_integers(
+            registers,
+            n,
+            pred,
+            Width { bits: *bits },
+            left,
+            right,
+        ),
         IrType::Ptr => match pred {
             Pred::Eq => icmp_of_pointers(registers, n, true, left, right),
             Pred::Ne => icmp_of_pointers(registers, n, false, left, right),

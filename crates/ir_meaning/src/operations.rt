@@ -23,7 +23,13 @@ pub(crate) struct Flags {
 }
 
 /// What an operation gives to two values of the width. It is None where the behaviour is undefined.
-pub(crate) fn operation(op: BinOp, flags: Flags, w: Width, left: Value, right: Value) -> Option<Value>
+pub(crate) fn operation(
+    op: BinOp,
+    flags: Flags,
+    w: Width,
+    left: Value,
+    right: Value,
+) -> Option<Value>
     requires left { is_of_type (IrType.Int w.bits) left ≡ true }
     requires right { is_of_type (IrType.Int w.bits) right ≡ true }
     ensures { result ≡ binary_row op flags.nuw flags.nsw flags.exact flags.disjoint w.bits left right }
@@ -80,11 +86,7 @@ fn of_poison(op: BinOp, w: Width, b: u64) -> Option<Value>
 fn poison_unless(undefined: bool) -> Option<Value>
     ensures { result ≡ (if undefined then None else Some Value.Poison) }
 {
-    if undefined {
-        None
-    } else {
-        Some(Value::Poison)
-    }
+    if undefined { None } else { Some(Value::Poison) }
 }
 
 /// What an operation gives to any value and poison: poison, unless it divides.
