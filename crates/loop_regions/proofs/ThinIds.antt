@@ -1,5 +1,5 @@
 -- The ids of a function of the thin forms stand in its tables.
-use Rattle.std.proofs.Common.{◌≡◌, ℕ, ◌<◌, List, [], ◌∷◌, ◌++◌, length, map, flat_map, Option, Some, None, All}
+use Rattle.std.proofs.Common.{◌≡◌, ◌<◌, List, [], ◌∷◌, ◌++◌, length, map, flat_map, Option, Some, None, All}
 use Rattle.std.proofs.lemmas.List.Elements.{All-nil, All-cons, All-head, All-tail, All-append, All-map, All-weaker}
 use Rattle.scev_base.specs.declared.ids.ValueId.{ValueId}
 use Rattle.ir_model.specs.declared.op.Operand.{Operand}
