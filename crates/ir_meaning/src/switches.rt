@@ -1,7 +1,8 @@
 //! Where a switch leads.
 
 ghost use Rattle.std.specs.Prelude.{◌≡◌};
-ghost use Rattle.ir_meaning.specs.Step.{effect as meaning, switched as meaning_of_switch, case_target as target_of_case};
+ghost use Rattle.ir_meaning.specs.Step.{effect as meaning, switched as meaning_of_switch};
+ghost use Rattle.ir_meaning.specs.Step.{case_target as target_of_case};
 ghost use Rattle.ir_meaning.specs.Stands.{register};
 ghost use Rattle.ir_meaning.specs.Narrow.{IsNarrow};
 ghost use Rattle.ir_meaning.specs.Effects.{meant};
