@@ -10,3 +10,4 @@ pub mod ThinParts
 pub mod MachineSteps
 pub mod RunSteps
 pub mod RefinementLaws
+mod Endings

@@ -24,12 +24,18 @@ pub value_there : (o : Option Value) (what : Value → Effect) (b : ℕ) → wit
 value_there None what b e = cc
 value_there (Some x) what b e = (x, e)
 
+-- and so do both of two
+pub both_there : (left right : Option Value) (what : Value → Value → Effect) (b : ℕ) → with_value left (λ x. with_value right (λ y. what x y)) ≡ Enters b → (x y : Value) × (what x y ≡ Enters b)
+both_there left right what b e =
+    let x = value_there left (λ (x : Value). with_value right (λ y. what x y)) b e in
+    let y = value_there right (λ (y : Value). what x.0 y) b x.1 in
+    (x.0, y.0, y.1)
+
 -- an operation that gives a value of two operands leads nowhere
 pub two_values_stay : (left right : Option Value) (give : Value → Value → Value) (b : ℕ) → with_value left (λ x. with_value right (λ y. Gives (give x y))) ≡ Enters b → ⊥
 two_values_stay left right give b e =
-    let x = value_there left (λ (x : Value). with_value right (λ y. Gives (give x y))) b e in
-    let y = value_there right (λ (y : Value). Gives (give x.0 y)) b x.1 in
-    cc (y.1)
+    let both = both_there left right (λ (x y : Value). Gives (give x y)) b e in
+    cc (both.2)
 
 -- an operation that gives a value leads nowhere
 pub giving_stays : (values labels : ℕ) (registers : Registers) (n : ℕ) (op : Op) (b : ℕ) → IsThinGiving values labels op → effect registers n op ≡ Enters b → ⊥

@@ -1,5 +1,5 @@
 -- When one function may stand for another.
-use Rattle.std.specs.Prelude.{◌≡◌, ℕ, List, [], ◌∷◌, ◌++◌, ◌⊎◌, Bool, true, cond, Option, Some, None, option_and_then, codes, filter, map, ◌||◌, length, is_some, bytes_eq, take}
+use Rattle.std.specs.Prelude.{◌≡◌, ℕ, List, [], ◌∷◌, ◌++◌, ◌⊎◌, true, cond, Option, Some, None, option_and_then, filter, map, is_some, take}
 use Rattle.scev_base.specs.declared.ids.BlockId.{BlockId}
 use Rattle.ir_model.specs.declared.op.Op.{Op}
 use Rattle.ir_model.specs.declared.op.Op.TheVariants.{Call, Jump}

@@ -1,12 +1,15 @@
 -- One step of a run.
-use Rattle.std.specs.Prelude.{ℕ, ◌+◌, ◌==◌, List, [], ◌∷◌, length, Bool, true, false, if◌then◌else◌, Option, Some, None, option_and_then, option_map, slice_get, find, take_while}
+use Rattle.std.specs.Prelude.{ℕ, ◌+◌, ◌==◌, List, [], ◌∷◌, length, true, false, if◌then◌else◌, Option, Some, None, option_and_then, option_map, slice_get, find}
 use Rattle.scev_base.specs.declared.ids.ValueId.{ValueId}
-use Rattle.ir_model.specs.declared.types.IrType.TheVariants.{Int}
+use Rattle.scev_base.specs.Residue.{residue}
+use Rattle.scev_base.specs.declared.pred.Pred.TheVariants as pred
+use Rattle.ir_model.specs.declared.types.IrType.TheVariants.{Int, Ptr}
+use Rattle.ir_model.specs.declared.op.TypedOperand.{TypedOperand}
+use Rattle.ir_model.specs.declared.op.Case.{Case}
 use Rattle.ir_model.specs.declared.op.Operand.{Operand}
-use Rattle.ir_model.specs.declared.op.BinOp.TheVariants as binary
 use Rattle.ir_model.specs.declared.op.PhiEntry.{PhiEntry}
 use Rattle.ir_model.specs.declared.op.Op.{Op}
-use Rattle.ir_model.specs.declared.op.Op.TheVariants.{Binary, Icmp, Phi, Jump, Branch, Ret, Unreachable}
+use Rattle.ir_model.specs.declared.op.Op.TheVariants.{Binary, Icmp, Cast, Select, Phi, Jump, Branch, Switch, Ret, Unreachable}
 use Rattle.ir_model.specs.declared.function.Instr.{Instr}
 use Rattle.ir_model.specs.declared.function.Block.{Block}
 use Rattle.ir_model.specs.declared.function.Function.{Function}
@@ -18,7 +21,7 @@ use Rattle.ir_meaning.specs.declared.phase.Phase.TheVariants as phase
 use Rattle.ir_meaning.specs.declared.choice.Choice.{Choice}
 use Rattle.ir_meaning.specs.State.{Registers, set, State, is_running, ended}
 use Rattle.ir_meaning.specs.Operands.{chosen, operand_value}
-use Rattle.ir_meaning.specs.Rows.{on_numbers, added, compared}
+use Rattle.ir_meaning.specs.Rows.{on_numbers, compared, binary_row, converted, compared_pointers}
 
 -- What an instruction does: it gives a value, control goes to a block, or the run ends.
 pub data Effect : Type 0 where
@@ -36,18 +39,55 @@ abbrev pub branched : Value → ℕ → ℕ → Effect
 branched (value.Number n) there else_there = Enters (if n == 0 then else_there else there)
 branched _ there else_there = Ends phase.Undefined
 
+-- what an operation gives, where its behaviour is defined
+abbrev pub given : Option Value → Effect
+given None = Ends phase.Undefined
+given (Some x) = Gives x
+
+-- what `select` gives: poison on a poison condition, else the arm that is chosen, whatever the other one is
+abbrev pub arm_value : Registers → ℕ → TypedOperand → Effect
+arm_value registers n typed = with_value (operand_value registers n typed.kind typed.value) Gives
+
+abbrev pub chosen_arm : Registers → ℕ → TypedOperand → TypedOperand → Value → Effect
+chosen_arm registers n left right (value.Number c) =
+    if c == 0 then arm_value registers n right else arm_value registers n left
+chosen_arm registers n left right _ = Gives value.Poison
+
+-- where a `switch` goes: to the target of the first case with the number, else to the other one; nowhere on poison
+abbrev pub case_target : ℕ → List Case → ℕ → ℕ → ℕ
+case_target w [] other x = other
+case_target w (one ∷ cases) other x = if residue w one.number == x then one.to.0 else case_target w cases other x
+
+abbrev pub switched : ℕ → List Case → ℕ → Value → Effect
+switched w cases other (value.Number x) = Enters (case_target w cases other x)
+switched w cases other _ = Ends phase.Undefined
+
 -- The effect of an instruction, with the registers and the chosen number, row by row. A phi has none: it is carried out by
 -- the branch that enters its block. Of the operations without a row of their own the meaning isn't given yet: a run is
 -- stuck at them.
 abbrev pub effect : Registers → ℕ → Op → Effect
-effect registers n (Binary binary.Add nuw nsw exact disjoint (Int w) left right) =
+effect registers n (Binary op nuw nsw exact disjoint (Int w) left right) =
     with_value (operand_value registers n (Int w) left) (λ a.
     with_value (operand_value registers n (Int w) right) (λ b.
-    Gives (on_numbers (added w nuw nsw) a b)))
+    given (binary_row op nuw nsw exact disjoint w a b)))
 effect registers n (Icmp pred (Int w) left right) =
     with_value (operand_value registers n (Int w) left) (λ a.
     with_value (operand_value registers n (Int w) right) (λ b.
     Gives (on_numbers (compared pred w) a b)))
+effect registers n (Icmp pred.Eq Ptr left right) =
+    with_value (operand_value registers n Ptr left) (λ a.
+    with_value (operand_value registers n Ptr right) (λ b.
+    Gives (compared_pointers true n a b)))
+effect registers n (Icmp pred.Ne Ptr left right) =
+    with_value (operand_value registers n Ptr left) (λ a.
+    with_value (operand_value registers n Ptr right) (λ b.
+    Gives (compared_pointers false n a b)))
+effect registers n (Cast op nneg (Int v) operand (Int w)) =
+    with_value (operand_value registers n (Int v) operand) (λ x. Gives (converted op nneg v w x))
+effect registers n (Select cond left right) =
+    with_value (operand_value registers n (Int 1) cond) (λ c. chosen_arm registers n left right c)
+effect registers n (Switch (Int w) operand other cases) =
+    with_value (operand_value registers n (Int w) operand) (λ x. switched w cases other.0 x)
 effect registers n (Jump to) = Enters to.0
 effect registers n (Branch cond there else_there) =
     with_value (operand_value registers n (Int 1) cond) (λ c. branched c there.0 else_there.0)

@@ -1,17 +1,19 @@
 //! What an instruction does.
 
-ghost use Rattle.std.specs.Prelude.{◌≡◌, Bool};
+ghost use Rattle.std.specs.Prelude.{◌≡◌};
 ghost use Rattle.ir_meaning.specs.Step.{effect as meaning, branched as meaning_of_branch};
 ghost use Rattle.ir_meaning.specs.Stands.{register};
 ghost use Rattle.ir_meaning.specs.Narrow.{IsNarrow, IsNarrowOp};
 ghost use Rattle.ir_meaning.specs.Effects.{meant};
 
+use crate::computations::{effect_of_binary, effect_of_cast, effect_of_icmp, effect_of_select};
 use crate::operand::{integer_value, operand_value};
+use crate::operations::Flags;
 use crate::phase::Phase;
-use crate::rows::{added, compared};
+use crate::switches::effect_of_switch;
 use crate::value::Value;
-use ir_model::{BinOp, IrType, Op, Operand, TypedOperand};
-use scev_base::{BlockId, Pred, Width};
+use ir_model::{Op, Operand, TypedOperand};
+use scev_base::{BlockId, Width};
 
 /// What an instruction does.
 #[derive(Clone, Copy, Debug)]
@@ -34,31 +36,70 @@ pub(crate) fn effect_of(registers: &[Option<Value>], n: u64, op: &Op) -> Effect
             op,
             nuw,
             nsw,
+            exact,
+            disjoint,
             kind,
             left,
             right,
-            ..
-        } => match op {
-            BinOp::Add => effect_of_add(registers, n, kind, *nuw, *nsw, left, right),
-            _ => Effect::Ends(Phase::Stuck),
-        },
+        } => {
+            let flags = Flags {
+                nuw: *nuw,
+                nsw: *nsw,
+                exact: *exact,
+                disjoint: *disjoint,
+            };
+            effect_of_binary(registers, n, *op, flags, kind, left, right)
+        }
         Op::Icmp {
             pred,
             kind,
             left,
             right,
         } => effect_of_icmp(registers, n, *pred, kind, left, right),
+        Op::Cast {
+            op,
+            nneg,
+            from,
+            value,
+            to,
+        } => effect_of_cast(registers, n, *op, *nneg, from, value, to),
+        Op::Select { cond, yes, no } => effect_of_select(registers, n, cond, yes, no),
         Op::Jump { to } => Effect::Enters(*to),
-        Op::Branch { cond, yes, no } => {
-            match integer_value(registers, n, Width { bits: 1 }, cond) {
-                Some(c) => branched(c, *yes, *no),
-                None => Effect::Ends(Phase::Stuck),
-            }
-        }
+        Op::Branch { cond, yes, no } => effect_of_branch(registers, n, cond, *yes, *no),
+        Op::Switch {
+            kind,
+            value,
+            other,
+            cases,
+        } => effect_of_switch(registers, n, kind, value, *other, cases.as_slice()),
         Op::Ret { value: None } => Effect::Ends(Phase::Returned(None)),
         Op::Ret { value: Some(typed) } => effect_of_ret(registers, n, typed),
         Op::Unreachable => Effect::Ends(Phase::Undefined),
-        _ => Effect::Ends(Phase::Stuck),
+        Op::Phi { .. } | Op::Freeze { .. } | Op::Alloca { .. } | Op::Load { .. } => stuck(),
+        Op::Store { .. } | Op::Gep { .. } | Op::Call { .. } => stuck(),
+    }
+}
+
+/// The end of a run that is stuck.
+pub(crate) fn stuck() -> Effect
+    ensures { result ≡ Effect.Ends Phase.Stuck }
+{
+    Effect::Ends(Phase::Stuck)
+}
+
+/// What a conditional branch does.
+fn effect_of_branch(
+    registers: &[Option<Value>],
+    n: u64,
+    cond: &Operand,
+    yes: BlockId,
+    no: BlockId,
+) -> Effect
+    ensures { meant result ≡ meaning (register registers.now) n (Op.Branch cond.now yes no) }
+{
+    match integer_value(registers, n, Width { bits: 1 }, cond) {
+        Some(c) => branched(c, yes, no),
+        None => stuck(),
     }
 }
 
@@ -74,59 +115,6 @@ fn branched(cond: Value, yes: BlockId, no: BlockId) -> Effect
     }
 }
 
-/// What `add` does.
-fn effect_of_add(
-    registers: &[Option<Value>],
-    n: u64,
-    kind: &IrType,
-    nuw: bool,
-    nsw: bool,
-    left: &Operand,
-    right: &Operand,
-) -> Effect
-    requires { IsNarrow kind.now }
-    ensures { (exact disjoint : Bool) → meant result ≡ meaning (register registers.now) n
-        (Op.Binary BinOp.Add nuw nsw exact disjoint kind.now left.now right.now) }
-{
-    let IrType::Int(bits) = kind else {
-        return Effect::Ends(Phase::Stuck);
-    };
-    let w = Width { bits: *bits };
-    let Some(a) = integer_value(registers, n, w, left) else {
-        return Effect::Ends(Phase::Stuck);
-    };
-    match integer_value(registers, n, w, right) {
-        Some(b) => Effect::Gives(added(w, nuw, nsw, a, b)),
-        None => Effect::Ends(Phase::Stuck),
-    }
-}
-
-/// What `icmp` does.
-fn effect_of_icmp(
-    registers: &[Option<Value>],
-    n: u64,
-    pred: Pred,
-    kind: &IrType,
-    left: &Operand,
-    right: &Operand,
-) -> Effect
-    requires { IsNarrow kind.now }
-    ensures { meant result ≡ meaning (register registers.now) n
-        (Op.Icmp pred kind.now left.now right.now) }
-{
-    let IrType::Int(bits) = kind else {
-        return Effect::Ends(Phase::Stuck);
-    };
-    let w = Width { bits: *bits };
-    let Some(a) = integer_value(registers, n, w, left) else {
-        return Effect::Ends(Phase::Stuck);
-    };
-    match integer_value(registers, n, w, right) {
-        Some(b) => Effect::Gives(compared(pred, w, a, b)),
-        None => Effect::Ends(Phase::Stuck),
-    }
-}
-
 /// What a return of a value does.
 fn effect_of_ret(registers: &[Option<Value>], n: u64, typed: &TypedOperand) -> Effect
     requires { IsNarrow typed.now.kind }
@@ -134,6 +122,6 @@ fn effect_of_ret(registers: &[Option<Value>], n: u64, typed: &TypedOperand) -> E
 {
     match operand_value(registers, n, &typed.kind, &typed.value) {
         Some(x) => Effect::Ends(Phase::Returned(Some(x))),
-        None => Effect::Ends(Phase::Stuck),
+        None => stuck(),
     }
 }

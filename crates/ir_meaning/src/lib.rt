@@ -2,17 +2,27 @@
 //! another; and a machine that carries out a step.
 #![tactic(auto)]
 
+mod bits;
 mod choice;
+mod comparisons;
+mod computations;
+mod conversions;
+mod divisions;
 mod effect;
 pub mod laws;
 mod lookup;
 mod machine;
 mod operand;
+mod operations;
 mod phase;
 mod phis;
-mod rows;
+mod pointers;
+mod shifts;
 mod start;
+mod sums;
+mod switches;
 mod value;
+mod wraps;
 
 pub use choice::Choice;
 pub use lookup::is_phi;

@@ -1,0 +1,207 @@
+//! What instructions do that give values.
+
+ghost use Rattle.std.specs.Prelude.{◌≡◌, if◌then◌else◌};
+ghost use Rattle.ir_model.specs.declared.op.Op.TheVariants.{Binary, Icmp, Cast, Select};
+ghost use Rattle.ir_meaning.specs.Step.{effect as meaning, given as given_by, arm_value, chosen_arm as meaning_of_arms};
+ghost use Rattle.ir_meaning.specs.Stands.{register};
+ghost use Rattle.ir_meaning.specs.Narrow.{IsNarrow};
+ghost use Rattle.ir_meaning.specs.Effects.{meant};
+
+use crate::comparisons::compared;
+use crate::conversions::converted;
+use crate::effect::{Effect, stuck};
+use crate::operand::{integer_value, operand_value};
+use crate::operations::{Flags, operation};
+use crate::phase::Phase;
+use crate::pointers::compared_pointers;
+use crate::value::Value;
+use ir_model::{BinOp, CastOp, IrType, Operand, TypedOperand};
+use scev_base::{Pred, Width};
+
+/// What an operation of two operands does.
+pub(crate) fn effect_of_binary(
+    registers: &[Option<Value>],
+    n: u64,
+    op: BinOp,
+    flags: Flags,
+    kind: &IrType,
+    left: &Operand,
+    right: &Operand,
+) -> Effect
+    requires { IsNarrow kind.now }
+    ensures { meant result ≡ meaning (register registers.now) n
+        (Binary op flags.nuw flags.nsw flags.exact flags.disjoint kind.now left.now right.now) }
+{
+    let IrType::Int(bits) = kind else {
+        return stuck();
+    };
+    let w = Width { bits: *bits };
+    let Some(a) = integer_value(registers, n, w, left) else {
+        return stuck();
+    };
+    match integer_value(registers, n, w, right) {
+        Some(b) => given(operation(op, flags, w, a, b)),
+        None => stuck(),
+    }
+}
+
+/// What follows from the value of an operation; without one the behaviour is undefined.
+fn given(value: Option<Value>) -> Effect
+    ensures { meant result ≡ given_by value }
+{
+    match value {
+        Some(x) => Effect::Gives(x),
+        None => Effect::Ends(Phase::Undefined),
+    }
+}
+
+/// What `icmp` does.
+pub(crate) fn effect_of_icmp(
+    registers: &[Option<Value>],
+    n: u64,
+    pred: Pred,
+    kind: &IrType,
+    left: &Operand,
+    right: &Operand,
+) -> Effect
+    requires { IsNarrow kind.now }
+    ensures { meant result ≡ meaning (register registers.now) n
+        (Icmp pred kind.now left.now right.now) }
+{
+    match kind {
+        IrType::Int(bits) => icmp_of_integers(
+            registers,
+            n,
+            pred,
+            Width { bits: *bits },
+            left,
+            right,
+        ),
+        IrType::Ptr => match pred {
+            Pred::Eq => icmp_of_pointers(registers, n, true, left, right),
+            Pred::Ne => icmp_of_pointers(registers, n, false, left, right),
+            Pred::Ugt | Pred::Uge | Pred::Ult | Pred::Ule => stuck(),
+            Pred::Sgt | Pred::Sge | Pred::Slt | Pred::Sle => stuck(),
+        },
+        IrType::Void | IrType::Array(_, _) => stuck(),
+    }
+}
+
+/// What `icmp` of integers of the width does.
+fn icmp_of_integers(
+    registers: &[Option<Value>],
+    n: u64,
+    pred: Pred,
+    w: Width,
+    left: &Operand,
+    right: &Operand,
+) -> Effect
+    ensures { meant result ≡ meaning (register registers.now) n
+        (Icmp pred (IrType.Int w.bits) left.now right.now) }
+{
+    let Some(a) = integer_value(registers, n, w, left) else {
+        return stuck();
+    };
+    match integer_value(registers, n, w, right) {
+        Some(b) => Effect::Gives(compared(pred, w, a, b)),
+        None => stuck(),
+    }
+}
+
+/// What `icmp` of pointers does, by `eq` where `equal` is given and by `ne` where not.
+fn icmp_of_pointers(
+    registers: &[Option<Value>],
+    n: u64,
+    equal: bool,
+    left: &Operand,
+    right: &Operand,
+) -> Effect
+    ensures { meant result ≡ meaning (register registers.now) n
+        (Icmp (if equal then Pred.Eq else Pred.Ne) IrType.Ptr left.now right.now) }
+{
+    let Some(a) = operand_value(registers, n, &IrType::Ptr, left) else {
+        return stuck();
+    };
+    match operand_value(registers, n, &IrType::Ptr, right) {
+        Some(b) => Effect::Gives(compared_pointers(equal, n, a, b)),
+        None => stuck(),
+    }
+}
+
+/// What a conversion does.
+pub(crate) fn effect_of_cast(
+    registers: &[Option<Value>],
+    n: u64,
+    op: CastOp,
+    nneg: bool,
+    from: &IrType,
+    operand: &Operand,
+    to: &IrType,
+) -> Effect
+    requires from { IsNarrow from.now }
+    requires to { IsNarrow to.now }
+    ensures { meant result ≡ meaning (register registers.now) n
+        (Cast op nneg from.now operand.now to.now) }
+{
+    let IrType::Int(bits) = from else {
+        return stuck();
+    };
+    let v = Width { bits: *bits };
+    let IrType::Int(bits) = to else {
+        return stuck();
+    };
+    let w = Width { bits: *bits };
+    match integer_value(registers, n, v, operand) {
+        Some(x) => Effect::Gives(converted(op, nneg, v, w, x)),
+        None => stuck(),
+    }
+}
+
+/// What `select` does.
+pub(crate) fn effect_of_select(
+    registers: &[Option<Value>],
+    n: u64,
+    cond: &Operand,
+    left: &TypedOperand,
+    right: &TypedOperand,
+) -> Effect
+    requires left { IsNarrow left.now.kind }
+    requires right { IsNarrow right.now.kind }
+    ensures { meant result ≡ meaning (register registers.now) n (Select cond.now left.now right.now) }
+{
+    match integer_value(registers, n, Width { bits: 1 }, cond) {
+        Some(c) => chosen_arm(registers, n, left, right, c),
+        None => stuck(),
+    }
+}
+
+/// What `select` gives on a condition: poison on poison, else the arm that is chosen (LLVM Language
+/// Reference, "select Instruction").
+fn chosen_arm(
+    registers: &[Option<Value>],
+    n: u64,
+    left: &TypedOperand,
+    right: &TypedOperand,
+    cond: Value,
+) -> Effect
+    requires left { IsNarrow left.now.kind }
+    requires right { IsNarrow right.now.kind }
+    ensures { meant result ≡ meaning_of_arms (register registers.now) n left.now right.now cond }
+{
+    match cond {
+        Value::Number(0) => arm(registers, n, right),
+        Value::Number(_) => arm(registers, n, left),
+        _ => Effect::Gives(Value::Poison),
+    }
+}
+
+/// What an arm of a `select` gives.
+fn arm(registers: &[Option<Value>], n: u64, typed: &TypedOperand) -> Effect
+    requires { IsNarrow typed.now.kind }
+    ensures { meant result ≡ arm_value (register registers.now) n typed.now }
+{
+    match operand_value(registers, n, &typed.kind, &typed.value) {
+        Some(x) => Effect::Gives(x),
+        None => stuck(),
+    }
+}
