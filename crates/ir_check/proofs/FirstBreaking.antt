@@ -1,5 +1,5 @@
 -- The first instruction that breaks a rule, one instruction or one block at a time.
-use Rattle.std.proofs.Common.{◌≡◌, ℕ, zero, suc, Bool, true, false, List, [], ◌∷◌, ◌++◌, Option, Some, None, map, filter, flat_map, slice_get, drop, refl, ap, sym, ◌∙◌, arith}
+use Rattle.std.proofs.Common.{◌≡◌, ℕ, zero, suc, true, false, List, [], ◌∷◌, ◌++◌, Option, Some, None, map, filter, flat_map, slice_get, drop, refl, sym}
 use Rattle.std.proofs.lemmas.Option.{none-some, same_Some}
 use Rattle.std.proofs.lemmas.List.{map-append}
 use Rattle.std.proofs.lemmas.List.Elements.{filter-append}
@@ -9,7 +9,7 @@ use Rattle.ir_model.specs.declared.function.Function.{Function}
 use Rattle.ir_model.specs.declared.signature.Signatures.{Signatures}
 use Rattle.ir_model.specs.declared.rule.Rule.{Rule}
 use Rattle.ir_model.specs.declared.rule.Place.{Place}
-use Rattle.ir_rules.specs.Spots.{Spot, block_spots, spots, place, named_by}
+use Rattle.ir_rules.specs.Spots.{Spot, block_spots, place, named_by}
 use Rattle.ir_check.specs.Instrs.{breaks, breaking_spots}
 
 -- the spots of some instructions of a block

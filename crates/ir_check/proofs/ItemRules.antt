@@ -1,12 +1,10 @@
 -- The places of the items that break a rule by themselves.
-use Rattle.std.proofs.Common.{◌≡◌, ℕ, suc, Bool, false, List, [], ◌∷◌, ◌++◌, not, refl, sym, ap}
+use Rattle.std.proofs.Common.{◌≡◌, ℕ, suc, false, List, [], ◌∷◌, refl}
 use Rattle.ir_model.specs.declared.item.Item.{Item}
 use Rattle.ir_model.specs.declared.item.Module.{Module}
 use Rattle.ir_model.specs.declared.rule.Rule.{Rule}
 use Rattle.ir_model.specs.declared.rule.Rule.TheVariants as rule
-use Rattle.ir_model.specs.declared.rule.Place.TheVariants as at
-use Rattle.ir_rules.specs.Names.{unless}
-use Rattle.ir_rules.specs.Items.{items_where, is_mistyped, is_out_of_range, has_bad_width}
+use Rattle.ir_rules.specs.Items.{items_where}
 use Rattle.ir_rules.specs.Rules.{items_broken}
 use Rattle.ir_check.specs.Items.{breaks_item}
 

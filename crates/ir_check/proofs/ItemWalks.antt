@@ -1,5 +1,5 @@
 -- Items that break a rule, one item at a time.
-use Rattle.std.proofs.Common.{◌≡◌, ◌≢◌, ℕ, zero, suc, ◌+◌, ◌<◌, ◌≤◌, Bool, true, false, not, cond, ◌||◌, List, [], ◌∷◌, ◌++◌, length, drop, map, Option, Some, None, slice_get, Bor, nat_lt, refl, sym, ap, ◌∙◌, arith}
+use Rattle.std.proofs.Common.{◌≡◌, ℕ, zero, suc, ◌≤◌, Bool, true, false, ◌||◌, List, [], ◌∷◌, ◌++◌, length, drop, map, Some, None, slice_get, Bor, refl, sym, ap, arith}
 use Rattle.std.specs.List.{list_any}
 use Rattle.std.specs.Str.{bytes_eq}
 use Rattle.std.proofs.lemmas.List.Folds.{list_any-append}
@@ -8,9 +8,7 @@ use Rattle.ir_model.specs.declared.item.Item.{Item}
 use Rattle.ir_model.specs.declared.rule.Place.{Place}
 use Rattle.ir_model.specs.declared.rule.Place.TheVariants as at
 use Rattle.ir_rules.specs.Spots.{repeated}
-use Rattle.ir_rules.specs.Names.{unless}
-use Rattle.ir_rules.specs.Limits.{function_limit}
-use Rattle.ir_rules.specs.Items.{items_where, items_past, is_past, functions_behind, name_of, numbered_names, same_item_name, with_number}
+use Rattle.ir_rules.specs.Items.{name_of, numbered_names, same_item_name}
 
 -- an element stands before those behind it
 pub drop_at : {X : Type 0} (xs : List X) (i : ℕ) (x : X) → slice_get xs i ≡ Some x

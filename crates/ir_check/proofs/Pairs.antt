@@ -1,5 +1,5 @@
 -- Operands that aren't two.
-use Rattle.std.proofs.Common.{◌≡◌, Bool, true, false, ◌&&◌, List, [], ◌∷◌, length, refl, sym}
+use Rattle.std.proofs.Common.{◌≡◌, false, List, [], ◌∷◌, length, refl, sym}
 use Rattle.std.proofs.lemmas.Bool.{and_right}
 use Rattle.ir_model.specs.declared.types.IrType.{IrType}
 use Rattle.ir_model.specs.declared.op.TypedOperand.{TypedOperand}

@@ -1,5 +1,5 @@
 -- The parts of an array's initialiser, as a row and as a list.
-use Rattle.std.proofs.Common.{◌≡◌, ℕ, suc, ◌&&◌, List, length, Option, Some, None, refl, ap, ◌∙◌}
+use Rattle.std.proofs.Common.{◌≡◌, suc, ◌&&◌, List, length, Option, Some, None, refl, ap, ◌∙◌}
 use Rattle.std.specs.List.{list_all}
 use mathlib.Core.Former.{Count}
 use Rattle.ir_model.specs.declared.types.IrType.{IrType}

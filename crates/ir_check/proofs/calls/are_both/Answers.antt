@@ -1,4 +1,4 @@
-use Rattle.std.proofs.Common.{◌≡◌, arith}
+use Rattle.std.proofs.Common.{arith}
 use Rattle.ir_check.proofs.Pairs.{not_two}
 use Rattle.ir_check.proofs.calls.are_both.Goals as goal
 

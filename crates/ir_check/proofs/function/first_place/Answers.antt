@@ -1,4 +1,3 @@
-use Rattle.std.proofs.Common.{◌≡◌, IfOk, slice_get, rules}
 use Rattle.ir_check.proofs.LaterRules.{IsSingle, breaking_places}
 use Rattle.ir_check.proofs.function.first_place.Goals as goal
 

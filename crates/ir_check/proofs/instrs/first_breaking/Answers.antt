@@ -1,4 +1,4 @@
-use Rattle.std.proofs.Common.{rules, arith, ◌≡◌, ◌+◌, suc, length, drop, None, Some, slice_get, sym, refl, ap, ◌∙◌}
+use Rattle.std.proofs.Common.{arith, ◌≡◌, ◌+◌, suc, length, None, Some, slice_get, sym, refl, ap, ◌∙◌}
 use Rattle.std.proofs.lemmas.Option.{slice_get_read}
 use Rattle.ir_rules.specs.Spots.{block_spots}
 use Rattle.ir_check.specs.Instrs.{breaking_spots}

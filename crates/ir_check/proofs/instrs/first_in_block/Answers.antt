@@ -1,4 +1,4 @@
-use Rattle.std.proofs.Common.{rules, arith, ◌≡◌, ◌+◌, suc, length, drop, true, false, Some, slice_get, sym, refl, ap, ◌∙◌}
+use Rattle.std.proofs.Common.{arith, ◌≡◌, ◌+◌, suc, length, true, false, Some, sym, refl, ap, ◌∙◌}
 use Rattle.std.proofs.lemmas.Option.{slice_get_read}
 use Rattle.ir_check.specs.Instrs.{breaks}
 use Rattle.ir_check.proofs.FirstBreaking.{first_of, first_behind, first_here}

@@ -1,4 +1,4 @@
-use Rattle.std.proofs.Common.{◌≡◌, drop, slice_get, map}
+use Rattle.std.proofs.Common.{◌≡◌, drop, slice_get}
 use Rattle.ir_check.specs.Items.{duplicates}
 use Rattle.ir_check.proofs.ItemWalks.{duplicates_behind}
 use Rattle.ir_check.proofs.items.duplicate_item.Given as goal

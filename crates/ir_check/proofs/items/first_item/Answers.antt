@@ -1,4 +1,4 @@
-use Rattle.std.proofs.Common.{◌≡◌, ap, ◌∙◌, List, slice_get}
+use Rattle.std.proofs.Common.{ap, ◌∙◌, List, slice_get}
 use Rattle.ir_model.specs.declared.item.Item.{Item}
 use Rattle.ir_rules.specs.Items.{items_where}
 use Rattle.ir_check.specs.Items.{breaks_item}
