@@ -1,1 +1,4 @@
-pub mod Trails
+mod Trails
+mod DefinitionLemmas
+mod SizeLemmas
+mod UseLemmas

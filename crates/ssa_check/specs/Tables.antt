@@ -49,6 +49,6 @@ AreMarksPast f d row = (b : ℕ) → IsMarked row b ↔ LeadsPast f d (entry f.b
 -- The flow of a function with its ids, and for some of its blocks such rows.
 pub record AreTables (f : Function) (flow : FlowParts) (rows : List (Option (List Bool))) : Type 0 where
   pub ids : HasIds f
-  pub flow : IsFlowOf f flow
+  pub is : IsFlowOf f flow
   pub size : length rows ≡ length f.labels
-  pub rows : (d : ℕ) (row : List Bool) → slice_get rows d ≡ Some (Some row) → AreMarksPast f d row
+  pub marks : (d : ℕ) (row : List Bool) → slice_get rows d ≡ Some (Some row) → AreMarksPast f d row
