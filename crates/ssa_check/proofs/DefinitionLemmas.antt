@@ -1,5 +1,5 @@
 -- Tables of definitions, filled from the last definition back.
-use Rattle.std.proofs.Common.{◌≡◌, ◌==◌, ◌+◌, ◌<◌, ◌≤◌, ◌×◌, ℕ, zero, suc, Bool, true, false, cond, if◌then◌else◌, List, [], ◌∷◌, ◌++◌, length, get_or, set, drop, take, map, flat_map, position, Option, Some, None, option_map, All, refl, sym, ap, ◌∙◌, subst, inl, inr, arith, length-set, get_or-set_same, get_or-set_other, eqb-true}
+use Rattle.std.proofs.Common.{◌≡◌, ◌==◌, ◌+◌, ◌<◌, ◌≤◌, ℕ, zero, suc, Bool, true, false, cond, if◌then◌else◌, List, [], ◌∷◌, ◌++◌, length, get_or, set, drop, take, map, flat_map, position, Option, Some, None, option_map, All, refl, sym, ap, ◌∙◌, subst, inl, inr, arith, length-set, get_or-set_same, get_or-set_other, eqb-true}
 use Rattle.std.specs.List.{list_any}
 use Rattle.std.proofs.lemmas.Bool.{cases_eq, cases_Bool, eq-eqb, ne_eqb}
 use Rattle.std.proofs.lemmas.List.Elements.{All-nil, All-cons, All-head, All-tail, All-get_or}
@@ -88,7 +88,7 @@ module _ (b : BlockId) (behind : ℕ) (old : List Definition) where
 
 option_map_none : (o : Option ℕ) → option_map (λ i. 0 + i) o ≡ o
 option_map_none None = refl
-option_map_none (Some i) = refl
+option_map_none (Some i) = ap Some (omega arith)
 
 pub noted_all : (b : BlockId) (instrs : List Instr) (old new : List Definition) → IsNoted b 0 instrs old new
     → (v : ℕ) (later : Option (BlockId × ℕ)) → get_or old v Nowhere ≡ at_place later

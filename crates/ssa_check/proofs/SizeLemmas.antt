@@ -1,7 +1,10 @@
 -- Tables of the sizes of blocks, filled from the last block back.
-use Rattle.std.proofs.Common.{◌≡◌, ◌==◌, ◌<◌, ◌≤◌, ℕ, suc, Bool, true, false, List, [], ◌∷◌, length, get_or, set, find, Option, Some, None, option_map, unwrap_or, All, refl, sym, ap, ◌∙◌, subst, inl, inr, arith, length-set, get_or-set_same, get_or-set_other}
+use Rattle.std.proofs.Common.{◌≡◌, ◌==◌, ◌<◌, ◌≤◌, ℕ, suc, Bool, true, false, List, [], ◌∷◌, length, get_or, set, find, Option, Some, None, option_map, unwrap_or, if◌then◌else◌, All, refl, sym, ap, ◌∙◌, subst, inl, inr, arith, length-set, get_or-set_same, get_or-set_other, eqb-true}
 use Rattle.std.proofs.lemmas.Bool.{cases_eq, cases_lt, eq-eqb, ne_eqb}
 use Rattle.std.proofs.lemmas.List.{get_or_past}
+use Rattle.std.proofs.lemmas.List.Elements.{All-contains}
+use Rattle.flow_graph.proofs.ArcLemmas.{find_is}
+use Rattle.flow_graph.proofs.IdLemmas.{labelled}
 use Rattle.ir_model.specs.declared.function.Block.{Block}
 use Rattle.ir_model.specs.declared.function.Function.{Function}
 use Rattle.ir_model.specs.WellMade.{HasIds}
@@ -14,4 +17,47 @@ size_in blocks b = unwrap_or (option_map (λ (block : Block). length block.instr
 
 pub record HasSizes (f : Function) (blocks : List Block) (sizes : List ℕ) : Type 0 where
   pub size : length sizes ≡ length f.labels
-  pub sizes : (b : ℕ) → get_or sizes b 0 ≡ size_in blocks b
+  pub each : (b : ℕ) → get_or sizes b 0 ≡ size_in blocks b
+
+find_cons : (a b : ℕ) (block : Block) (blocks : List Block) (same : Bool) → (block.id.0 == b) ≡ same → a ≡ length block.instrs
+    → size_in (block ∷ blocks) b ≡ (if same then a else size_in blocks b)
+find_cons a b block blocks true e is = rw e (sym is)
+find_cons a b block blocks false e is = rw e refl
+
+pub sizes_more : (f : Function) (block : Block) (blocks : List Block) (sizes : List ℕ) (count : ℕ) → block.id.0 < length f.labels
+    → count ≡ length block.instrs → HasSizes f blocks sizes → HasSizes f (block ∷ blocks) (set sizes block.id.0 count)
+sizes_more f block blocks sizes count within is before = record {
+  size = length-set sizes block.id.0 count ∙ before.size;
+  each = λ b.
+      elim (cases_eq b block.id.0) [
+        | inl e ↦
+            ap (λ (k : ℕ). get_or (set sizes block.id.0 count) k 0) e
+            ∙ get_or-set_same sizes block.id.0 count 0 (omega (arith, within, before.size))
+            ∙ sym (find_cons count b block blocks true (eq-eqb block.id.0 b (sym e)) is)
+        | inr apart ↦
+            get_or-set_other sizes block.id.0 b count 0 apart ∙ before.each b
+            ∙ sym (find_cons count b block blocks false (ne_eqb block.id.0 b (λ e. apart (sym e))) is)
+      ];
+}
+
+-- the blocks stand in the table of labels
+pub labelled_ids : (f : Function) → HasIds f → All (λ (block : Block). block.id.0 < length f.labels) f.blocks
+labelled_ids f ids k d within = (labelled f ids k d within).0
+
+no_size : (f : Function) (o : Option Block) (b : ℕ) → HasIds f → block_of f b ≡ o → length f.labels ≤ b
+    → 0 ≡ unwrap_or (option_map (λ (block : Block). length block.instrs) o) 0
+no_size f None b ids is past = refl
+no_size f (Some block) b ids is past =
+    let there = find_is (λ (block : Block). block.id.0 == b) f.blocks block is in
+    let low = All-contains (λ (block : Block). block.id.0 < length f.labels) f.blocks block (labelled_ids f ids) there.0 in
+    let same : block.id.0 ≡ b = eqb-true block.id.0 b there.1 in
+    absurd (omega (arith, low, same, past))
+
+-- so no size is missing
+pub sizes_all : (f : Function) (sizes : List ℕ) → HasIds f → ((b : ℕ) → b < length sizes → get_or sizes b 0 ≡ size_of f b)
+    → length sizes ≡ length f.labels → (b : ℕ) → get_or sizes b 0 ≡ size_of f b
+sizes_all f sizes ids each size b =
+    elim (cases_lt b (length sizes)) [
+      | inl within ↦ each b within
+      | inr past ↦ get_or_past sizes b 0 past ∙ no_size f (block_of f b) b ids refl (omega (arith, size, past))
+    ]
