@@ -2,3 +2,4 @@ mod Trails
 mod DefinitionLemmas
 mod SizeLemmas
 mod UseLemmas
+mod RowLemmas
