@@ -3,3 +3,4 @@ mod DefinitionLemmas
 mod SizeLemmas
 mod UseLemmas
 mod RowLemmas
+mod BackLemmas
