@@ -2,8 +2,7 @@
 use Rattle.std.proofs.Common.{◌≡◌, ◌==◌, ◌<◌, ◌≤◌, ℕ, suc, Bool, true, false, List, [], ◌∷◌, length, get_or, set, find, Option, Some, None, option_map, unwrap_or, if◌then◌else◌, All, refl, sym, ap, ◌∙◌, subst, inl, inr, arith, length-set, get_or-set_same, get_or-set_other, eqb-true}
 use Rattle.std.proofs.lemmas.Bool.{cases_eq, cases_lt, eq-eqb, ne_eqb}
 use Rattle.std.proofs.lemmas.List.{get_or_past}
-use Rattle.std.proofs.lemmas.List.Elements.{All-contains}
-use Rattle.flow_graph.proofs.ArcLemmas.{find_is}
+use Rattle.std.proofs.lemmas.List.Elements.{All-get_or}
 use Rattle.flow_graph.proofs.IdLemmas.{labelled}
 use Rattle.ir_model.specs.declared.function.Block.{Block}
 use Rattle.ir_model.specs.declared.function.Function.{Function}
@@ -44,20 +43,9 @@ sizes_more f block blocks sizes count within is before = record {
 pub labelled_ids : (f : Function) → HasIds f → All (λ (block : Block). block.id.0 < length f.labels) f.blocks
 labelled_ids f ids k d within = (labelled f ids k d within).0
 
-no_size : (f : Function) (o : Option Block) (b : ℕ) → HasIds f → block_of f b ≡ o → length f.labels ≤ b
-    → 0 ≡ unwrap_or (option_map (λ (block : Block). length block.instrs) o) 0
-no_size f None b ids is past = refl
-no_size f (Some block) b ids is past =
-    let there = find_is (λ (block : Block). block.id.0 == b) f.blocks block is in
-    let low = All-contains (λ (block : Block). block.id.0 < length f.labels) f.blocks block (labelled_ids f ids) there.0 in
-    let same : block.id.0 ≡ b = eqb-true block.id.0 b there.1 in
-    absurd (omega (arith, low, same, past))
-
--- so no size is missing
-pub sizes_all : (f : Function) (sizes : List ℕ) → HasIds f → ((b : ℕ) → b < length sizes → get_or sizes b 0 ≡ size_of f b)
-    → length sizes ≡ length f.labels → (b : ℕ) → get_or sizes b 0 ≡ size_of f b
-sizes_all f sizes ids each size b =
-    elim (cases_lt b (length sizes)) [
-      | inl within ↦ each b within
-      | inr past ↦ get_or_past sizes b 0 past ∙ no_size f (block_of f b) b ids refl (omega (arith, size, past))
-    ]
+pub label_at : (f : Function) → HasIds f → (blocks : List Block) → blocks ≡ f.blocks → (i : ℕ) (block : Block)
+    → i < length blocks → block ≡ get_or blocks i block → block.id.0 < length f.labels
+label_at f ids blocks same i block within is =
+    let P : Block → Type 0 = λ one. one.id.0 < length f.labels in
+    let all : All P blocks = rw same (labelled_ids f ids) in
+    subst P (sym is) (All-get_or P blocks i block within all)
