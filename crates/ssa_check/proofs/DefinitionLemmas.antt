@@ -25,6 +25,62 @@ use Rattle.ssa_check.specs.Tables.{at_place, definition_of, AreWithin}
 abbrev pub given_in : List Instr → ℕ → Option ℕ
 given_in instrs v = position (λ (instr : Instr). is_value instr.result v) instrs
 
+-- ---- values in the table
+
+pub result_within : (bound : ℕ) (instrs : List Instr) → AreWithin bound instrs → (i : ℕ) (instr : Instr) → i < length instrs
+    → instr ≡ get_or instrs i instr → (v : ValueId) → instr.result ≡ Some v → v.0 < bound
+result_within bound instrs all i instr within is v given =
+    let own = All-get_or (λ (one : Instr). All (λ v. v < bound) (result_of one.result)) instrs i instr within all in
+    let there : All (λ v. v < bound) (result_of instr.result) = rw (← is) at own in
+    All-head (λ v. v < bound) v.0 [] (subst (λ (r : Option ValueId). All (λ v. v < bound) (result_of r)) given there)
+
+module _ (f : Function) where
+  sites_within : (result : Option ValueId) → All (IsInTable f) (result_sites result) → All (λ v. v < length f.values) (result_of result)
+  sites_within None h = All-nil (λ v. v < length f.values)
+  sites_within (Some v) h =
+      let P : ℕ → Type 0 = λ v. v < length f.values in
+      All-cons P v.0 [] (All-head (IsInTable f) (DefinesValue v.0) [] h) (All-nil P)
+
+  instrs_within : (instrs : List Instr) → All (IsInTable f) (flat_map instr_sites instrs) → AreWithin (length f.values) instrs
+  instrs_within [] h = All-nil (λ (instr : Instr). All (λ v. v < length f.values) (result_of instr.result))
+  instrs_within (instr ∷ instrs) h =
+      let more = flat_map instr_sites instrs in
+      let own = all_left (IsInTable f) (instr_sites instr) more h in
+      All-cons (λ (instr : Instr). All (λ v. v < length f.values) (result_of instr.result)) instr instrs
+      (sites_within instr.result (all_left (IsInTable f) (result_sites instr.result) (op_sites instr.op) own))
+      (instrs_within instrs (all_right (IsInTable f) (instr_sites instr) more h))
+
+  blocks_within : (blocks : List Block) → All (IsInTable f) (flat_map block_sites blocks)
+      → All (λ (block : Block). AreWithin (length f.values) block.instrs) blocks
+  blocks_within [] h = All-nil (λ (block : Block). AreWithin (length f.values) block.instrs)
+  blocks_within (block ∷ blocks) h =
+      let more = flat_map block_sites blocks in
+      let own = all_left (IsInTable f) (block_sites block) more h in
+      All-cons (λ (block : Block). AreWithin (length f.values) block.instrs) block blocks
+      (instrs_within block.instrs (All-tail (IsInTable f) (DefinesBlock block.id.0) (flat_map instr_sites block.instrs) own))
+      (blocks_within blocks (all_right (IsInTable f) (block_sites block) more h))
+
+  params_within : (params : List Param) → All (IsInTable f) (map (λ (p : Param). DefinesValue p.value.0) params)
+      → All (λ (p : Param). p.value.0 < length f.values) params
+  params_within [] h = All-nil (λ (p : Param). p.value.0 < length f.values)
+  params_within (p ∷ params) h =
+      let more = map (λ (p : Param). DefinesValue p.value.0) params in
+      All-cons (λ (p : Param). p.value.0 < length f.values) p params (All-head (IsInTable f) (DefinesValue p.value.0) more h)
+      (params_within params (All-tail (IsInTable f) (DefinesValue p.value.0) more h))
+
+  -- the values that are defined stand in the table
+  pub defined_in_table : HasIds f → All (λ (block : Block). AreWithin (length f.values) block.instrs) f.blocks
+  unfolding HasIds
+  defined_in_table ids =
+      blocks_within f.blocks
+      (all_right (IsInTable f) (map (λ (p : Param). DefinesValue p.value.0) f.params) (flat_map block_sites f.blocks) ids)
+
+  pub params_in_table : HasIds f → All (λ (p : Param). p.value.0 < length f.values) f.params
+  unfolding HasIds
+  params_in_table ids =
+      params_within f.params
+      (all_left (IsInTable f) (map (λ (p : Param). DefinesValue p.value.0) f.params) (flat_map block_sites f.blocks) ids)
+
 -- ---- the instructions of a block
 
 -- The instructions of a block behind so many are noted.

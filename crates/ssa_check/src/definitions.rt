@@ -99,7 +99,8 @@ fn note_instrs(table: &mut Vec<Definition>, b: BlockId, instrs: &[Instr])
         ≡ at_place (in_block b (position (λ (instr : Instr). is_value instr.result v) instrs.now) later) }
 {
     for i in (0..instrs.len()).rev() {
-        if let Some(v) = instrs[i].result {
+        let instr = &instrs[i];
+        if let Some(v) = instr.result {
             table[v.0 as usize] = Definition::At(b, i);
         }
     }
