@@ -3,4 +3,5 @@ mod DefinitionLemmas
 mod SizeLemmas
 mod UseLemmas
 mod RowLemmas
+mod ReadLemmas
 mod BackLemmas
