@@ -1,13 +1,11 @@
 -- Tables of definitions, filled from the last definition back.
-use Rattle.std.proofs.Common.{◌≡◌, ◌==◌, ◌+◌, ◌<◌, ◌≤◌, ℕ, zero, suc, Bool, true, false, cond, if◌then◌else◌, List, [], ◌∷◌, ◌++◌, length, get_or, set, drop, take, map, flat_map, position, Option, Some, None, option_map, All, refl, sym, ap, ◌∙◌, subst, inl, inr, arith, length-set, get_or-set_same, get_or-set_other, eqb-true}
-use Rattle.std.specs.List.{list_any}
-use Rattle.std.proofs.lemmas.Bool.{cases_eq, cases_Bool, eq-eqb, ne_eqb}
+use Rattle.std.proofs.Common.{◌≡◌, ◌+◌, ◌<◌, ℕ, suc, Bool, true, false, cond, if◌then◌else◌, List, [], ◌∷◌, length, get_or, set, map, flat_map, position, Option, Some, None, option_map, All, refl, sym, ap, ◌∙◌, subst, inl, inr, arith, length-set, get_or-set_same, get_or-set_other}
+use Rattle.std.proofs.lemmas.Bool.{cases_eq, eq-eqb, ne_eqb}
 use Rattle.std.proofs.lemmas.List.Elements.{All-nil, All-cons, All-head, All-tail, All-get_or}
 use Rattle.std.proofs.lemmas.Grind.{common_steps}
 use Rattle.flow_graph.proofs.IdLemmas.{all_left, all_right}
 use Rattle.scev_base.specs.declared.ids.BlockId.{BlockId}
 use Rattle.scev_base.specs.declared.ids.ValueId.{ValueId}
-use Rattle.ir_model.specs.declared.op.Op.{Op}
 use Rattle.ir_model.specs.declared.function.Param.{Param}
 use Rattle.ir_model.specs.declared.function.Instr.{Instr}
 use Rattle.ir_model.specs.declared.function.Block.{Block}
@@ -19,7 +17,7 @@ use Rattle.ir_model.specs.Sites.{DefinesValue, DefinesBlock, result_sites, op_si
 use Rattle.ir_model.specs.WellMade.{IsInTable, HasIds}
 use Rattle.ssa_check.specs.declared.definitions.Definition.{Definition}
 use Rattle.ssa_check.specs.declared.definitions.Definition.TheVariants.{Nowhere, Parameter, At}
-use Rattle.ssa_check.specs.Tables.{at_place, definition_of, AreWithin}
+use Rattle.ssa_check.specs.Tables.{at_place, AreWithin}
 
 -- the index of the first instruction that gives a value
 abbrev pub given_in : List Instr → ℕ → Option ℕ

@@ -38,7 +38,10 @@ pub fn check_uses(alloc: Global, f: &Function, flow: &Flow) -> Result<(), SsaFau
     let mut avoiding = Avoiding::of(alloc, f, flow)?;
     for read in reads.as_slice() {
         if avoiding.is_broken(alloc, read)? {
-            return Err(SsaFault::UseBeforeDef { value: read.value, block: read.spot.user });
+            return Err(SsaFault::UseBeforeDef {
+                value: read.value,
+                block: read.spot.user,
+            });
         }
     }
     Ok(())

@@ -69,9 +69,15 @@ fn push_op(
 ) -> Result<(), AllocError>
     ensures { OnOk result (out.new ≡ out.old ++ op_uses sizes.now user.0 index op.now) }
 {
-    let spot = Spot { user, block: user, index };
+    let spot = Spot {
+        user,
+        block: user,
+        index,
+    };
     match op {
-        Op::Binary { left, right, .. } | Op::Icmp { left, right, .. } => push_two(spot, *left, *right, out),
+        Op::Binary { left, right, .. } | Op::Icmp { left, right, .. } => push_two(
+            spot, *left, *right, out,
+        ),
         Op::Cast { value, .. } | Op::Freeze { value, .. } => push_operand(spot, *value, out),
         Op::Select { cond, yes, no } => {
             push_operand(spot, *cond, out)?;
@@ -102,14 +108,22 @@ fn push_entries(
     ensures { OnOk result (out.new ≡ out.old ++ flat_map (entry_uses sizes.now user.0) entries.now) }
 {
     for entry in entries {
-        let spot = Spot { user, block: entry.from, index: sizes.get(entry.from) };
+        let spot = Spot {
+            user,
+            block: entry.from,
+            index: sizes.get(entry.from),
+        };
         push_operand(spot, entry.value, out)?;
     }
     Ok(())
 }
 
 /// Adds the uses of operands with their types.
-fn push_typed(spot: Spot, operands: &[TypedOperand], out: &mut Items<Read>) -> Result<(), AllocError>
+fn push_typed(
+    spot: Spot,
+    operands: &[TypedOperand],
+    out: &mut Items<Read>,
+) -> Result<(), AllocError>
     ensures { OnOk result (out.new ≡ out.old
         ++ map (use_at spot) (flat_map register_of (map (λ (typed : TypedOperand). typed.value) operands.now))) }
 {
@@ -120,7 +134,12 @@ fn push_typed(spot: Spot, operands: &[TypedOperand], out: &mut Items<Read>) -> R
 }
 
 /// Adds the uses of two operands.
-fn push_two(spot: Spot, left: Operand, right: Operand, out: &mut Items<Read>) -> Result<(), AllocError>
+fn push_two(
+    spot: Spot,
+    left: Operand,
+    right: Operand,
+    out: &mut Items<Read>,
+) -> Result<(), AllocError>
     ensures { OnOk result (out.new ≡ out.old ++ map (use_at spot) (flat_map register_of (left ∷ right ∷ []))) }
 {
     push_operand(spot, left, out)?;
@@ -133,6 +152,7 @@ fn push_operand(spot: Spot, operand: Operand, out: &mut Items<Read>) -> Result<(
 {
     match operand {
         Operand::Reg(value) => out.push(Read { value, spot }),
-        Operand::Num(_) | Operand::Null | Operand::Global(_) | Operand::Undef | Operand::Poison => Ok(()),
+        Operand::Num(_) | Operand::Null | Operand::Global(_) | Operand::Undef | Operand::Poison =>
+            Ok(()),
     }
 }

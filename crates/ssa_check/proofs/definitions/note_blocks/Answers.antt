@@ -1,7 +1,5 @@
-use Rattle.std.proofs.Common.{◌≡◌, ◌-◌, ◌<◌, ℕ, List, Option, All, length, get_or, drop, sym, ap, ◌∙◌, subst, arith}
-use Rattle.std.proofs.lemmas.List.Elements.{All-get_or}
+use Rattle.std.proofs.Common.{◌≡◌, ℕ, List, Option, length, get_or, drop, subst}
 use Rattle.ir_model.specs.declared.function.Instr.{Instr}
-use Rattle.ir_model.specs.declared.function.Block.{Block}
 use Rattle.scev_base.specs.declared.ids.BlockId.{BlockId}
 use Rattle.ir_model.specs.Places.{in_block}
 use Rattle.ssa_check.specs.declared.definitions.Definition.TheVariants.{Nowhere}

@@ -1,4 +1,4 @@
-use Rattle.std.proofs.Common.{◌≡◌, drop, length}
+use Rattle.std.proofs.Common.{drop, length}
 use Rattle.ssa_check.proofs.DefinitionLemmas.{AreNoted}
 use Rattle.ssa_check.proofs.definitions.note_blocks.Given as goal
 

@@ -1,7 +1,4 @@
-use Rattle.std.proofs.Common.{◌≡◌, ◌-◌, ◌+◌, ◌<◌, ℕ, List, Option, length, drop, sym, ap, ◌∙◌, subst, arith}
-use Rattle.scev_base.specs.declared.ids.BlockId.{BlockId}
-use Rattle.ir_model.specs.declared.function.Instr.{Instr}
-use Rattle.ssa_check.specs.declared.definitions.Definition.{Definition}
+use Rattle.std.proofs.Common.{◌≡◌, ◌-◌, ◌+◌, ℕ, length, drop, subst, arith}
 use Rattle.ssa_check.proofs.BackLemmas.{drop_back}
 use Rattle.ssa_check.proofs.DefinitionLemmas.{IsNoted, result_within, noted_skip, noted_more, noted_all}
 use Rattle.ssa_check.proofs.definitions.note_instrs.Goals as goal

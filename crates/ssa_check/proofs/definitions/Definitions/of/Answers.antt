@@ -1,7 +1,6 @@
-use Rattle.std.proofs.Common.{◌≡◌, ◌<◌, ℕ, List, All, length, sym, subst, arith}
+use Rattle.std.proofs.Common.{◌≡◌, ◌<◌, ℕ, All, length, sym, subst, arith}
 use Rattle.ir_model.specs.declared.function.Block.{Block}
 use Rattle.ir_model.specs.declared.function.Param.{Param}
-use Rattle.ssa_check.specs.declared.definitions.Definition.{Definition}
 use Rattle.ssa_check.specs.Tables.{AreWithin}
 use Rattle.ssa_check.proofs.DefinitionLemmas.{defined_in_table, params_in_table}
 use Rattle.ssa_check.proofs.definitions.Definitions.of.Goals as goal

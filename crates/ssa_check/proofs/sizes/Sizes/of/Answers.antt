@@ -1,6 +1,6 @@
-use Rattle.std.proofs.Common.{◌≡◌, ◌-◌, length, drop, arith}
+use Rattle.std.proofs.Common.{◌-◌, drop, arith}
 use Rattle.ssa_check.proofs.BackLemmas.{drop_back}
-use Rattle.ssa_check.proofs.SizeLemmas.{HasSizes, label_at, sizes_more}
+use Rattle.ssa_check.proofs.SizeLemmas.{label_at, sizes_more}
 use Rattle.ssa_check.proofs.sizes.Sizes.of.Goals as goal
 
 pub index_mut-requires : goal.index_mut-requires
