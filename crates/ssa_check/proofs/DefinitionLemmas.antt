@@ -25,7 +25,8 @@ given_in instrs v = position (λ (instr : Instr). is_value instr.result v) instr
 
 -- ---- values in the table
 
-pub result_within : (bound : ℕ) (instrs : List Instr) → AreWithin bound instrs → (i : ℕ) (instr : Instr) → i < length instrs
+pub result_within : (bound : ℕ) (instrs : List Instr) → AreWithin bound instrs → (i : ℕ) (instr : Instr)
+    → i < length instrs
     → instr ≡ get_or instrs i instr → (v : ValueId) → instr.result ≡ Some v → v.0 < bound
 result_within bound instrs all i instr within is v given =
     let own = All-get_or (λ (one : Instr). All (λ v. v < bound) (result_of one.result)) instrs i instr within all in
@@ -33,13 +34,15 @@ result_within bound instrs all i instr within is v given =
     All-head (λ v. v < bound) v.0 [] (subst (λ (r : Option ValueId). All (λ v. v < bound) (result_of r)) given there)
 
 module _ (f : Function) where
-  sites_within : (result : Option ValueId) → All (IsInTable f) (result_sites result) → All (λ v. v < length f.values) (result_of result)
+  sites_within : (result : Option ValueId) → All (IsInTable f) (result_sites result)
+      → All (λ v. v < length f.values) (result_of result)
   sites_within None h = All-nil (λ v. v < length f.values)
   sites_within (Some v) h =
       let P : ℕ → Type 0 = λ v. v < length f.values in
       All-cons P v.0 [] (All-head (IsInTable f) (DefinesValue v.0) [] h) (All-nil P)
 
-  instrs_within : (instrs : List Instr) → All (IsInTable f) (flat_map instr_sites instrs) → AreWithin (length f.values) instrs
+  instrs_within : (instrs : List Instr) → All (IsInTable f) (flat_map instr_sites instrs)
+      → AreWithin (length f.values) instrs
   instrs_within [] h = All-nil (λ (instr : Instr). All (λ v. v < length f.values) (result_of instr.result))
   instrs_within (instr ∷ instrs) h =
       let more = flat_map instr_sites instrs in
@@ -55,7 +58,8 @@ module _ (f : Function) where
       let more = flat_map block_sites blocks in
       let own = all_left (IsInTable f) (block_sites block) more h in
       All-cons (λ (block : Block). AreWithin (length f.values) block.instrs) block blocks
-      (instrs_within block.instrs (All-tail (IsInTable f) (DefinesBlock block.id.0) (flat_map instr_sites block.instrs) own))
+      (instrs_within block.instrs (All-tail (IsInTable f) (DefinesBlock block.id.0)
+      (flat_map instr_sites block.instrs) own))
       (blocks_within blocks (all_right (IsInTable f) (block_sites block) more h))
 
   params_within : (params : List Param) → All (IsInTable f) (map (λ (p : Param). DefinesValue p.value.0) params)
@@ -63,7 +67,8 @@ module _ (f : Function) where
   params_within [] h = All-nil (λ (p : Param). p.value.0 < length f.values)
   params_within (p ∷ params) h =
       let more = map (λ (p : Param). DefinesValue p.value.0) params in
-      All-cons (λ (p : Param). p.value.0 < length f.values) p params (All-head (IsInTable f) (DefinesValue p.value.0) more h)
+      All-cons (λ (p : Param). p.value.0 < length f.values) p params
+      (All-head (IsInTable f) (DefinesValue p.value.0) more h)
       (params_within params (All-tail (IsInTable f) (DefinesValue p.value.0) more h))
 
   -- the values that are defined stand in the table
@@ -71,13 +76,15 @@ module _ (f : Function) where
   unfolding HasIds
   defined_in_table ids =
       blocks_within f.blocks
-      (all_right (IsInTable f) (map (λ (p : Param). DefinesValue p.value.0) f.params) (flat_map block_sites f.blocks) ids)
+      (all_right (IsInTable f) (map (λ (p : Param). DefinesValue p.value.0) f.params)
+      (flat_map block_sites f.blocks) ids)
 
   pub params_in_table : HasIds f → All (λ (p : Param). p.value.0 < length f.values) f.params
   unfolding HasIds
   params_in_table ids =
       params_within f.params
-      (all_left (IsInTable f) (map (λ (p : Param). DefinesValue p.value.0) f.params) (flat_map block_sites f.blocks) ids)
+      (all_left (IsInTable f) (map (λ (p : Param). DefinesValue p.value.0) f.params)
+      (flat_map block_sites f.blocks) ids)
 
 -- ---- the instructions of a block
 
@@ -91,7 +98,8 @@ pub position_cons : {X : Type 0} (p : X → Bool) (x : X) (xs : List X)
     → position p (x ∷ xs) ≡ cond (p x) (Some 0) (option_map suc (position p xs))
 position_cons p x xs = grind (arith, common_steps)
 
-option_map_twice : (f g h : ℕ → ℕ) → ((i : ℕ) → f (g i) ≡ h i) → (o : Option ℕ) → option_map f (option_map g o) ≡ option_map h o
+option_map_twice : (f g h : ℕ → ℕ) → ((i : ℕ) → f (g i) ≡ h i) → (o : Option ℕ)
+    → option_map f (option_map g o) ≡ option_map h o
 option_map_twice f g h same None = refl
 option_map_twice f g h same (Some i) = ap Some (same i)
 
@@ -104,10 +112,12 @@ module _ (b : BlockId) (behind : ℕ) (old : List Definition) where
       → option_map (λ i. behind + i) (given_in (instr ∷ instrs) v)
       ≡ cond gives (Some behind) (option_map (λ i. (behind + 1) + i) (given_in instrs v))
   in_front instr instrs v true e =
-      ap (option_map (λ i. behind + i)) (position_cons (λ (instr : Instr). is_value instr.result v) instr instrs ∙ ap (λ (t : Bool). cond t (Some 0) (option_map suc (given_in instrs v))) e)
+      ap (option_map (λ i. behind + i)) (position_cons (λ (instr : Instr). is_value instr.result v) instr instrs
+      ∙ ap (λ (t : Bool). cond t (Some 0) (option_map suc (given_in instrs v))) e)
       ∙ ap Some (omega arith)
   in_front instr instrs v false e =
-      ap (option_map (λ i. behind + i)) (position_cons (λ (instr : Instr). is_value instr.result v) instr instrs ∙ ap (λ (t : Bool). cond t (Some 0) (option_map suc (given_in instrs v))) e)
+      ap (option_map (λ i. behind + i)) (position_cons (λ (instr : Instr). is_value instr.result v) instr instrs
+      ∙ ap (λ (t : Bool). cond t (Some 0) (option_map suc (given_in instrs v))) e)
       ∙ option_map_twice (λ i. behind + i) suc (λ i. (behind + 1) + i) (λ i. omega arith) (given_in instrs v)
 
   pub noted_skip : (new : List Definition) (instr : Instr) (instrs : List Instr) → instr.result ≡ None
@@ -119,7 +129,8 @@ module _ (b : BlockId) (behind : ℕ) (old : List Definition) where
         before.noted v later is ∙ ap (λ (o : Option ℕ). at_place (in_block b o later)) (sym e);
   }
 
-  pub noted_more : (new : List Definition) (instr : Instr) (instrs : List Instr) (given : ValueId) → instr.result ≡ Some given
+  pub noted_more : (new : List Definition) (instr : Instr) (instrs : List Instr) (given : ValueId)
+      → instr.result ≡ Some given
       → given.0 < length new → IsNoted b (behind + 1) instrs old new
       → IsNoted b behind (instr ∷ instrs) old (set new given.0 (At b behind))
   noted_more new instr instrs given is_given within before = record {
@@ -127,13 +138,15 @@ module _ (b : BlockId) (behind : ℕ) (old : List Definition) where
     noted = λ v later is.
         elim (cases_eq v given.0) [
           | inl e ↦
-              let gives : is_value instr.result v ≡ true = ap (λ (r : Option ValueId). is_value r v) is_given ∙ eq-eqb given.0 v (sym e) in
+              let gives : is_value instr.result v ≡ true =
+              ap (λ (r : Option ValueId). is_value r v) is_given ∙ eq-eqb given.0 v (sym e) in
               let front = in_front instr instrs v true gives in
               ap (λ (k : ℕ). get_or (set new given.0 (At b behind)) k Nowhere) e
               ∙ get_or-set_same new given.0 (At b behind) Nowhere within
               ∙ ap (λ (o : Option ℕ). at_place (in_block b o later)) (sym front)
           | inr apart ↦
-              let gives : is_value instr.result v ≡ false = ap (λ (r : Option ValueId). is_value r v) is_given ∙ ne_eqb given.0 v (λ e. apart (sym e)) in
+              let gives : is_value instr.result v ≡ false =
+              ap (λ (r : Option ValueId). is_value r v) is_given ∙ ne_eqb given.0 v (λ e. apart (sym e)) in
               let front = in_front instr instrs v false gives in
               get_or-set_other new given.0 v (At b behind) Nowhere apart ∙ before.noted v later is
               ∙ ap (λ (o : Option ℕ). at_place (in_block b o later)) (sym front)

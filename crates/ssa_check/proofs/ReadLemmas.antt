@@ -13,7 +13,8 @@ uses_from_push f b i [] instr =
 uses_from_push f b i (first ∷ instrs) instr =
     let next : suc i + length instrs ≡ i + suc (length instrs) = omega arith in
     ap (λ (xs : List Use). op_uses f b i first.op ++ xs) (uses_from_push f b (suc i) instrs instr)
-    ∙ sym (append_assoc (op_uses f b i first.op) (uses_from f b (suc i) instrs) (op_uses f b (suc i + length instrs) instr.op))
+    ∙ sym (append_assoc (op_uses f b i first.op) (uses_from f b (suc i) instrs)
+    (op_uses f b (suc i + length instrs) instr.op))
     ∙ ap (λ (k : ℕ). (op_uses f b i first.op ++ uses_from f b (suc i) instrs) ++ op_uses f b k instr.op) next
 
 -- one more instruction of a block
@@ -21,7 +22,8 @@ pub uses_more : (f : Function) (b : ℕ) (instrs : List Instr) (index : ℕ) (in
     → instr ≡ get_or instrs index instr
     → uses_from f b 0 (take (index + 1) instrs) ≡ uses_from f b 0 (take index instrs) ++ op_uses f b index instr.op
 uses_more f b instrs index instr within is =
-    let front : take (index + 1) instrs ≡ take index instrs ++ instr ∷ [] = take_more instrs index instr within ∙ ap (λ (one : Instr). take index instrs ++ one ∷ []) (sym is) in
+    let front : take (index + 1) instrs ≡ take index instrs ++ instr ∷ [] =
+    take_more instrs index instr within ∙ ap (λ (one : Instr). take index instrs ++ one ∷ []) (sym is) in
     let size : 0 + length (take index instrs) ≡ index = omega (arith, length-take index instrs) in
     ap (uses_from f b 0) front ∙ uses_from_push f b 0 (take index instrs) instr
     ∙ ap (λ (k : ℕ). uses_from f b 0 (take index instrs) ++ op_uses f b k instr.op) size

@@ -9,18 +9,21 @@ use Rattle.ir_model.specs.WellMade.{HasIds}
 
 -- the size of the first one of some blocks with this number
 abbrev pub size_in : List Block → ℕ → ℕ
-size_in blocks b = unwrap_or (option_map (λ (block : Block). length block.instrs) (find (λ block. block.id.0 == b) blocks)) 0
+size_in blocks b = unwrap_or (option_map (λ (block : Block). length block.instrs)
+    (find (λ block. block.id.0 == b) blocks)) 0
 
 pub record HasSizes (f : Function) (blocks : List Block) (sizes : List ℕ) : Type 0 where
   pub size : length sizes ≡ length f.labels
   pub each : (b : ℕ) → get_or sizes b 0 ≡ size_in blocks b
 
-find_cons : (a b : ℕ) (block : Block) (blocks : List Block) (same : Bool) → (block.id.0 == b) ≡ same → a ≡ length block.instrs
+find_cons : (a b : ℕ) (block : Block) (blocks : List Block) (same : Bool) → (block.id.0 == b) ≡ same
+    → a ≡ length block.instrs
     → size_in (block ∷ blocks) b ≡ (if same then a else size_in blocks b)
 find_cons a b block blocks true e is = rw e (sym is)
 find_cons a b block blocks false e is = rw e refl
 
-pub sizes_more : (f : Function) (block : Block) (blocks : List Block) (sizes : List ℕ) (count : ℕ) → block.id.0 < length f.labels
+pub sizes_more : (f : Function) (block : Block) (blocks : List Block) (sizes : List ℕ) (count : ℕ)
+    → block.id.0 < length f.labels
     → count ≡ length block.instrs → HasSizes f blocks sizes → HasSizes f (block ∷ blocks) (set sizes block.id.0 count)
 sizes_more f block blocks sizes count within is before = record {
   size = length-set sizes block.id.0 count ∙ before.size;

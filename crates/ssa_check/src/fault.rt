@@ -10,7 +10,8 @@ use thiserror::Error;
 /// The uses of a function aren't accepted.
 #[derive(Debug, Drop, Error)]
 pub enum SsaFault {
-    /// A walk from the entry reaches a use of the value, by an instruction of the block, and hasn't passed its definition.
+    /// A walk from the entry reaches a use of the value, by an instruction of the block, and hasn't passed its
+    /// definition.
     #[error("a value is used before its definition")]
     UseBeforeDef { value: ValueId, block: BlockId },
     /// No memory was found.

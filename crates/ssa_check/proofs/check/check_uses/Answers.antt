@@ -15,7 +15,9 @@ returns-then-branch-clause-refused c value block e =
     let use_ = c.read-item.result in
     let all : items ≡ uses f = c.as_slice-read-items.ensures ∙ c.in_ok-reads.ensures ∙ ap uses c.in_ok-sizes.ensures in
     let there = slice_get_read items (length items) i use_ refl c.loop-read-test.true c.read-item.is in
-    let broken : IsBroken f use_ = subst (λ (g : Function). IsBroken g use_) c.loop-read.invariant.function (c.in_ok-is_broken.ensures.broken.0 c.if-branch.true) in
+    let broken : IsBroken f use_ =
+    subst (λ (g : Function). IsBroken g use_) c.loop-read.invariant.function
+    (c.in_ok-is_broken.ensures.broken.0 c.if-branch.true) in
     let its_value : c.read.inside.value ≡ value = cc e in
     let its_block : c.read.inside.spot.user ≡ block = cc e in (
       use_,
@@ -23,7 +25,8 @@ returns-then-branch-clause-refused c value block e =
         at = i;
         is = subst (λ (us : List Use). slice_get us i ≡ Some use_) all there;
         broken = broken;
-        first = λ k other earlier at. c.loop-read.invariant.defined k other earlier (subst (λ (us : List Use). slice_get us k ≡ Some other) (sym all) at);
+        first = λ k other earlier at. c.loop-read.invariant.defined k other earlier
+            (subst (λ (us : List Use). slice_get us k ≡ Some other) (sym all) at);
       },
       sym (ap (λ (u : Use). u.value) c.read.view_is) ∙ ap (λ (v : ValueId). v.0) its_value,
       sym (ap (λ (u : Use). u.user) c.read.view_is) ∙ ap (λ (b : BlockId). b.0) its_block,
@@ -43,8 +46,11 @@ loop-read-preserved c =
             | inl earlier ↦ c.loop-read.invariant.defined k other earlier at broken
             | inr past ↦
                 let last : k ≡ i = omega (arith, within, past) in
-                let same : other ≡ use_ = same_Some other use_ (sym at ∙ ap (λ (j : ℕ). slice_get items j) last ∙ there) in
-                let here : IsBroken c.loop-read.avoiding use_ = subst (λ (g : Function). IsBroken g use_) (sym c.loop-read.invariant.function) (subst (IsBroken f) same broken) in
+                let same : other ≡ use_ =
+                same_Some other use_ (sym at ∙ ap (λ (j : ℕ). slice_get items j) last ∙ there) in
+                let here : IsBroken c.loop-read.avoiding use_ =
+                subst (λ (g : Function). IsBroken g use_) (sym c.loop-read.invariant.function)
+                (subst (IsBroken f) same broken) in
                 false≢true (sym c.if-branch.false ∙ c.in_ok-is_broken.ensures.broken.1 here)
           ];
     }

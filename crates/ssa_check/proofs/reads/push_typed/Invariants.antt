@@ -7,4 +7,5 @@ use Rattle.ssa_check.proofs.reads.push_typed.Given as goal
 abbrev pub invariant-loop-typed : goal.invariant-loop-typed
 invariant-loop-typed l =
     l.out ≡ l.initial.out
-    ++ map (use_at l.spot) (flat_map register_of (map (λ (typed : TypedOperand). typed.value) (take l.typed-index l.operands)))
+    ++ map (use_at l.spot) (flat_map register_of (map (λ (typed : TypedOperand). typed.value)
+    (take l.typed-index l.operands)))

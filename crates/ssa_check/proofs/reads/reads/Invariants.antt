@@ -5,4 +5,5 @@ use Rattle.ssa_check.proofs.reads.reads.Given as goal
 
 abbrev pub invariant-loop-block : goal.invariant-loop-block
 invariant-loop-block l =
-    l.out ≡ flat_map (λ (block : Block). uses_from l.sizes block.id.0 0 block.instrs) (take l.block-index l.sizes.blocks)
+    l.out ≡ flat_map (λ (block : Block). uses_from l.sizes block.id.0 0 block.instrs)
+    (take l.block-index l.sizes.blocks)

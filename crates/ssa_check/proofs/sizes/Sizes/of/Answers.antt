@@ -6,7 +6,9 @@ use Rattle.ssa_check.proofs.sizes.Sizes.of.Goals as goal
 pub index_mut-requires : goal.index_mut-requires
 index_mut-requires c =
     let blocks = c.as_slice-blocks.result.now in
-    let low = label_at c.args.f.now c.requires blocks c.as_slice-blocks.ensures (c.loop-i.i - 1) c.index-blocks-i.result (omega arith) c.index-blocks-i.is in
+    let low =
+    label_at c.args.f.now c.requires blocks c.as_slice-blocks.ensures (c.loop-i.i - 1) c.index-blocks-i.result
+    (omega arith) c.index-blocks-i.is in
     omega (arith, low, c.loop-i.invariant.size)
 
 pub loop-i-preserved : goal.loop-i-preserved
