@@ -24,6 +24,7 @@ loop-i-preserved c =
     let old = c.loop-i.table.items in
     let new = c.note_instrs.new.table.items in
     let count = length c.args.table.now.items in
-    let noted = new_notes old new block.id c.as_slice.result.now block.instrs c.as_slice.ensures c.note_instrs.ensures.noted in
+    let noted =
+    new_notes old new block.id c.as_slice.result.now block.instrs c.as_slice.ensures c.note_instrs.ensures.noted in
     rw (drop_back blocks i block c.loop-i-test.true c.loop-i.auto.i c.index-blocks-i.is)
     (are_noted_more count block (drop i blocks) old new c.note_instrs.ensures.size noted c.loop-i.invariant)
