@@ -101,7 +101,7 @@ fn late_in(b: BlockId, instrs: &[Instr]) -> Option<Place>
 }
 
 /// Whether an operation is a phi.
-pub(crate) fn is_phi(op: &Op) -> bool
+fn is_phi(op: &Op) -> bool
     ensures { result ≡ shapes.is_phi op.now }
 {
     matches!(op, Op::Phi { .. })

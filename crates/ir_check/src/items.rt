@@ -31,8 +31,8 @@ const ITEM_RULES: [Rule; 5] = [
 /// The most functions with a body.
 const FUNCTIONS: usize = 1024;
 
-/// Looks at the rules of what stands outside functions: names, initialisers, widths and limits. `Ok` comes exactly where
-/// none of them is broken, `Broken` with the first one that is and the first item in text order that breaks it.
+/// Looks at the rules of what stands outside functions: names, initialisers, widths and limits. `Ok` comes exactly
+/// where none of them is broken, `Broken` with the first one that is and the first item in text order that breaks it.
 ///
 /// Time linear in the items.
 pub fn check_module(alloc: Global, m: &Module) -> Result<(), Ill>

@@ -1,5 +1,5 @@
-//! The rules of well-formedness, checked. `check_module` looks at what stands outside functions, `check_function` at one
-//! function; each answers the first rule that is broken, with its first place in text order.
+//! The rules of well-formedness, checked. `check_module` looks at what stands outside functions, `check_function` at
+//! one function; each answers the first rule that is broken, with its first place in text order.
 #![tactic(auto)]
 
 // What is refused.

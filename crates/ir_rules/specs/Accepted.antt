@@ -37,8 +37,8 @@ pub record IsAcceptedModule (m : Module) : Type 0 where
   pub items : first_item_broken m ≡ None
   pub functions : (k : ℕ) (f : Function) → slice_get (functions_of m) k ≡ Some f → IsAccepted (signatures_of m) f
 
--- A module is refused at a rule of what stands outside functions; or, where these hold, in the first function that isn't
--- accepted, by its number from 0.
+-- A module is refused at a rule of what stands outside functions; or, where these hold, in the first function that
+-- isn't accepted, by its number from 0.
 pub record IsFunctionFault (m : Module) (rule : Rule) (number : ℕ) (place : Place) : Type 0 where
   pub items : first_item_broken m ≡ None
   pub function : Function

@@ -1,4 +1,5 @@
--- Rules on blocks and phis: nothing leads to the first block, phis come first, and their entries are their block's edges.
+-- Rules on blocks and phis: nothing leads to the first block, phis come first, and their entries are their block's
+-- edges.
 use Rattle.std.specs.Prelude.{ℕ, ◌==◌, Bool, true, false, not, ◌&&◌, ◌||◌, List, [], ◌∷◌, ◌++◌, map, flat_map, filter, count_by}
 use Rattle.std.specs.List.{list_any, list_all}
 use Rattle.scev_base.specs.Residue.{residue}

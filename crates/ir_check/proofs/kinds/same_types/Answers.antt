@@ -13,5 +13,6 @@ loop-at-preserved c =
     c.index-kinds-at.result c.loop-at-test.true there c.index-args-at.is c.index-kinds-at.is in
     record {
       long = c.loop-at.invariant.long;
-      rest = rw (next) (sym (rw (sym c.same_type.ensures ∙ c.if-not-same_type.false) at behind) ∙ c.loop-at.invariant.rest);
+      rest = rw (next) (sym (rw (sym c.same_type.ensures ∙ c.if-not-same_type.false) at behind)
+          ∙ c.loop-at.invariant.rest);
     }

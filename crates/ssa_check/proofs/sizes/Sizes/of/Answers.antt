@@ -19,4 +19,5 @@ loop-i-preserved c =
     let i = c.loop-i.i in
     let low = label_at f c.requires blocks c.as_slice-blocks.ensures (i - 1) block (omega arith) c.index-blocks-i.is in
     rw (drop_back blocks i block c.loop-i-test.true c.loop-i.auto.i c.index-blocks-i.is)
-    (sizes_more f block (drop i blocks) c.loop-i.sizes.items c.len-in-loop-i.result low c.len-in-loop-i.ensures c.loop-i.invariant)
+    (sizes_more f block (drop i blocks) c.loop-i.sizes.items c.len-in-loop-i.result low c.len-in-loop-i.ensures
+    c.loop-i.invariant)
