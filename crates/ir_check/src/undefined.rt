@@ -2,7 +2,6 @@
 
 ghost use Rattle.std.specs.Prelude.{◌≡◌, [], ◌∷◌, slice_get};
 ghost use Rattle.std.specs.List.{flat_map};
-ghost use Rattle.std.specs.Option.{option_or};
 ghost use Rattle.ir_model.specs.declared.op.Case.{Case};
 ghost use Rattle.ir_model.specs.declared.signature.Signatures.{Signatures};
 ghost use Rattle.ir_model.specs.Sites.{UsesBlock, operand_sites, typed_sites, entry_sites, op_sites};
@@ -65,46 +64,31 @@ fn undefined_in_op(scope: &Scope<'_>, op: &Op) -> Option<Place>
 {
     match op {
         Op::Binary { left, right, .. } | Op::Icmp { left, right, .. } => {
-            or_else(operand(scope, left), operand(scope, right))
+            operand(scope, left).or(operand(scope, right))
         }
         Op::Cast { value, .. } | Op::Freeze { value, .. } => operand(scope, value),
-        Op::Select { cond, yes, no } => or_else(
-            operand(scope, cond),
-            or_else(operand(scope, &yes.value), operand(scope, &no.value)),
-        ),
+        Op::Select { cond, yes, no } => {
+            operand(scope, cond).or(operand(scope, &yes.value).or(operand(scope, &no.value)))
+        }
         Op::Phi { entries, .. } => in_entries(scope, entries.as_slice()),
         Op::Load { from, .. } => operand(scope, from),
-        Op::Store { value, to, .. } => or_else(operand(scope, value), operand(scope, to)),
+        Op::Store { value, to, .. } => operand(scope, value).or(operand(scope, to)),
         Op::Gep { base, indices, .. } => {
-            or_else(operand(scope, base), in_operands(scope, indices.as_slice()))
+            operand(scope, base).or(in_operands(scope, indices.as_slice()))
         }
         Op::Call { args, .. } => in_operands(scope, args.as_slice()),
         Op::Jump { to } => target(scope, *to),
-        Op::Branch { cond, yes, no } => or_else(
-            operand(scope, cond),
-            or_else(target(scope, *yes), target(scope, *no)),
-        ),
+        Op::Branch { cond, yes, no } => {
+            operand(scope, cond).or(target(scope, *yes).or(target(scope, *no)))
+        }
         Op::Switch {
             value,
             other,
             cases,
             ..
-        } => or_else(
-            operand(scope, value),
-            or_else(target(scope, *other), in_cases(scope, cases.as_slice())),
-        ),
+        } => operand(scope, value).or(target(scope, *other).or(in_cases(scope, cases.as_slice()))),
         Op::Ret { value: Some(typed) } => operand(scope, &typed.value),
         Op::Alloca { .. } | Op::Ret { value: None } | Op::Unreachable => None,
-    }
-}
-
-/// The first place of two, where there is one.
-fn or_else(first: Option<Place>, second: Option<Place>) -> Option<Place>
-    ensures { result ≡ option_or first second }
-{
-    match first {
-        Some(place) => Some(place),
-        None => second,
     }
 }
 
@@ -176,7 +160,7 @@ fn in_entries(scope: &Scope<'_>, entries: &[PhiEntry]) -> Option<Place>
 fn in_entry(scope: &Scope<'_>, entry: &PhiEntry) -> Option<Place>
     ensures { result ≡ first_at scope.now (entry_sites entry.now) }
 {
-    or_else(operand(scope, &entry.value), target(scope, entry.from))
+    operand(scope, &entry.value).or(target(scope, entry.from))
 }
 
 /// The first such use of a switch's cases.
