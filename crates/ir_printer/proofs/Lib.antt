@@ -1,5 +1,4 @@
 pub mod Elements
-pub mod Residues
 pub mod Joined
 pub mod Appended
 pub mod Arguments

@@ -7,7 +7,7 @@ use Rattle.std.proofs.lemmas.Int.{ints}
 use Rattle.scev_base.specs.Residue.{residue, reading}
 use Rattle.scev_base.proofs.ReadingLemmas.{reading_low, reading_high}
 use Rattle.ir_text.specs.Tokens.{FitsSigned128}
-use Rattle.ir_printer.proofs.Residues.{wide}
+use Rattle.scev_base.proofs.BitLemmas.{wide}
 use mir.Syntax.{w128}
 use mir.Val.{SFits}
 

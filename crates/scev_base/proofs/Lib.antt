@@ -1,3 +1,4 @@
 pub mod Congruence
 pub mod ReadingLemmas
 pub mod NestLemmas
+pub mod BitLemmas

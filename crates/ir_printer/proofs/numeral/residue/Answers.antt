@@ -1,6 +1,6 @@
 use mir.Syntax.{w128}
 use Rattle.std.proofs.lemmas.Int.{to_z-of_z}
-use Rattle.ir_printer.proofs.Residues.{residue_of_bits}
+use Rattle.scev_base.proofs.BitLemmas.{residue_of_bits}
 use Rattle.ir_printer.proofs.numeral.residue.Goals as goal
 
 pub returns-clause-value : goal.returns-clause-value

@@ -1,7 +1,7 @@
 use Rattle.std.proofs.Common.{sym, ◌∙◌}
 use Rattle.std.proofs.lemmas.Int.{to_z-of_z}
 use mir.Syntax.{w128}
-use Rattle.ir_printer.proofs.Residues.{wide}
+use Rattle.scev_base.proofs.BitLemmas.{wide}
 use Rattle.ir_printer.proofs.numeral.signed_reading.Goals as goal
 
 pub returns-then-width-ge128 : goal.returns-then-width-ge128
