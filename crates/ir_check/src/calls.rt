@@ -1,14 +1,14 @@
 //! Calls and what a function returns.
 
-ghost use Rattle.std.specs.Prelude.{◌≡◌, [], ◌∷◌, codes};
+ghost use Rattle.std.specs.Prelude.{◌≡◌, [], ◌∷◌, map};
 ghost use Rattle.std.specs.List.{list_any};
 ghost use Rattle.std.specs.Str.{bytes_eq};
-ghost use Rattle.ir_model.specs.Kinds as kinds;
+ghost use Rattle.ir_model.specs.Callees.{min_max_front, all_min_max};
 ghost use Rattle.ir_rules.specs.Values as values;
 
 use crate::callees::Callees;
 use crate::kinds::{same_type, same_types};
-use ir_model::{IrType, Op, TypedOperand};
+use ir_model::{IrType, MinMax, Op, TypedOperand};
 use itoa::Buffer;
 
 /// Whether a call is of a function of the module and has its types; each other operation fits.
@@ -18,8 +18,8 @@ pub(crate) fn call_fits(callees: &Callees<'_>, op: &Op) -> bool
     match op {
         Op::Call { ret, callee, args } => {
             let args = args.as_slice();
-            let alone = is_minimum(ret, callee.as_slice());
-            if alone && !are_both(args, ret) {
+            let alone = MinMax::named(callee.as_slice()).is_some();
+            if alone && !(is_min_max_of(ret, callee.as_slice()) && are_both(args, ret)) {
                 return false;
             }
             match callees.function(callee.as_slice()) {
@@ -44,24 +44,24 @@ fn are_both(args: &[TypedOperand], kind: &IrType) -> bool
 }
 
 /// Whether a callee is a minimum or a maximum of two operands of the type.
-fn is_minimum(ret: &IrType, callee: &[u8]) -> bool
-    ensures { result ≡ kinds.is_minimum ret.now callee.now }
+fn is_min_max_of(kind: &IrType, callee: &[u8]) -> bool
+    ensures { result ≡ values.is_min_max_of kind.now callee.now }
 {
-    let IrType::Int(width) = ret else {
+    let IrType::Int(width) = kind else {
         return false;
     };
     let mut buffer = Buffer::new();
     let digits = buffer.format(*width).as_bytes();
     match callee.strip_suffix(digits) {
-        Some(front) => is_minimum_kind(front),
+        Some(front) => is_front(front),
         None => false,
     }
 }
 
 /// Whether a text is the name of a minimum or a maximum up to its width.
-fn is_minimum_kind(front: &[u8]) -> bool
+fn is_front(front: &[u8]) -> bool
     ensures { result ≡ list_any (bytes_eq front.now)
-        (codes "llvm.umin.i" ∷ codes "llvm.umax.i" ∷ codes "llvm.smin.i" ∷ codes "llvm.smax.i" ∷ []) }
+        (map min_max_front all_min_max) }
 {
     front == b"llvm.umin.i".as_slice()
         || front == b"llvm.umax.i".as_slice()

@@ -175,7 +175,7 @@ named_there : (has_result : Bool) (head : CallHead) (name : List ℕ) (p : List 
     (ms : List Mention) (ts : List Lexeme) → WithNamed has_result head name p ms ts
     → WithArguments name (map plain_argument p.0) p.1.0.1 ms ts
 named_there has_result head name p ms ts l =
-    first_as (silent_as (one_as (λ t is. (named_read has_result head.ret name t is).0))) ms ts
+    first_as (silent_as (one_as (λ t is. (named_read has_result name t is).0))) ms ts
     (then_as {B = CalledParts p} (then_as {B = SpellsArguments p.0 ⊙ silent (SpellsTrailing p.1)} behind) ms ts l)
   where
     behind : (ms : List Mention) (ts : List Lexeme) → (SpellsArguments p.0 ⊙ silent (SpellsTrailing p.1)) ms ts
@@ -190,9 +190,9 @@ named_there has_result head name p ms ts l =
 -- What may be called at the type.
 called : (has_result : Bool) (head : CallHead) (name : List ℕ) (p : List Argument × Behind)
     (ms : List Mention) (ts : List Lexeme) → (silent (SpellsHead head) ⊙ WithNamed has_result head name p) ms ts
-    → IsCallee head.ret name
+    → IsCallee name
 called has_result head name p ms ts l =
-    let token = l.3.4.3.3.1 in (named_read has_result head.ret name token.0 token.2).1
+    let token = l.3.4.3.3.1 in (named_read has_result name token.0 token.2).1
 
 -- the texts of the arguments
 same_words : (args : List Argument) → map (λ (arg : Argument). arg.words) args
@@ -275,7 +275,7 @@ record NamedBack (has_result : Bool) (head : CallHead) (name : List ℕ) (args :
   read : WithNamed has_result head name found ms ts
 
 named_back : (has_result : Bool) (head : CallHead) (name : List ℕ) (args : List grammar.Argument) (after : List ℕ)
-    (ms : List Mention) (ts : List Lexeme) → IsCallee head.ret name → WithArguments name args after ms ts
+    (ms : List Mention) (ts : List Lexeme) → IsCallee name → WithArguments name args after ms ts
     → NamedBack has_result head name args after ms ts
 named_back has_result head name args after ms ts callee l =
     let b = l.3.4 in
@@ -296,7 +296,7 @@ named_back has_result head name args after ms ts callee l =
           l.3.0,
           l.3.1,
           l.3.2,
-          silent_as (one_as (λ t is. named_reads has_result head.ret name t is callee)) l.0 l.3.0 l.3.3,
+          silent_as (one_as (λ t is. named_reads has_result name t is callee)) l.0 l.3.0 l.3.3,
           (
             b.0,
             b.1,

@@ -1,11 +1,8 @@
 -- Reading calls, and calls that are dropped, with the attachments behind them.
-use Rattle.std.specs.Prelude.{ℕ, Bool, false, ◌||◌, not, if◌then◌else◌, List, [], ◌∷◌, ◌++◌, Option, Some, None, codes, decimal}
-use Rattle.std.specs.List.{list_any}
+use Rattle.std.specs.Prelude.{ℕ, Bool, false, ◌||◌, not, if◌then◌else◌, List, [], ◌∷◌, ◌++◌, Option, Some, None}
 use Rattle.std.specs.Option.{option_and_then}
-use Rattle.std.specs.Str.{bytes_eq}
-use Rattle.ir_model.specs.declared.types.IrType.{IrType}
-use Rattle.ir_model.specs.declared.types.IrType.TheVariants.{Int}
 use Rattle.ir_model.specs.declared.op.Op.TheVariants.{Call}
+use Rattle.ir_model.specs.Callees.{is_min_max}
 use Rattle.ir_text.specs.Tokens.{Lexeme}
 use Rattle.ir_text.specs.Said.{said_global}
 use Rattle.ir_grammar.specs.Operations.{is_intrinsic}
@@ -26,21 +23,14 @@ use Rattle.ir_functions.specs.Silent.{head_at, trailing_at}
 
 -- ---- the callee
 
--- whether it is the name of a minimum or a maximum of this type
-abbrev pub is_minimum : IrType → List ℕ → Bool
-is_minimum (Int width) name =
-    list_any (λ kind. bytes_eq name (codes "llvm." ++ (kind ++ (codes ".i" ++ decimal width))))
-    (codes "umin" ∷ codes "umax" ∷ codes "smin" ∷ codes "smax" ∷ [])
-is_minimum _ name = false
-
 -- Calls that are dropped have no result; what else begins `llvm.` is left out, but for minima and maxima.
-abbrev pub callee_named : Bool → IrType → List ℕ → Option Callee
-callee_named has_result ret name =
+abbrev pub callee_named : Bool → List ℕ → Option Callee
+callee_named has_result name =
     if is_dropped_name name then (if has_result then None else Some Dropped)
-    else (if not (is_intrinsic name) || is_minimum ret name then Some (Named name) else None)
+    else (if not (is_intrinsic name) || is_min_max name then Some (Named name) else None)
 
-abbrev pub callee_of : Bool → IrType → Lexeme → Option Callee
-callee_of has_result ret t = option_and_then (callee_named has_result ret) (said_global t)
+abbrev pub callee_of : Bool → Lexeme → Option Callee
+callee_of has_result t = option_and_then (callee_named has_result) (said_global t)
 
 -- ---- behind the callee
 
@@ -76,5 +66,5 @@ behind_callee_at head (Named name) = called_at head name
 
 -- a call, or none where it is dropped; and how the passed-on words behind it end, where no attachment stands there
 unfoldable pub call_at : Bool → Telling (Option Operation × Option Ending)
-call_at has_result = silently head_at >>= λ head. silently (one_at (callee_of has_result head.ret)) >>=
+call_at has_result = silently head_at >>= λ head. silently (one_at (callee_of has_result)) >>=
     behind_callee_at head

@@ -8,10 +8,10 @@ ghost use Rattle.ir_functions.specs.Calls.{callee_named, callee_of, ended_at, dr
 ghost use Rattle.ir_functions.specs.Views.{bare_read_operation, read_operation_sites};
 
 use crate::argument_list::{Arguments, read_arguments};
-use crate::callee::{is_dropped_name, is_intrinsic, is_minimum};
 use ir_body::{Operation, read_flag};
+use ir_grammar::{is_dropped_name, is_intrinsic};
 use ir_lex::Tokens;
-use ir_model::{IrType, Op, Text};
+use ir_model::{MinMax, Op, Text};
 use ir_parts::{
     Ending, ItemFault, behind_keyword, behind_sign, parentheses, read_global_name,
     read_returned_type, skip_metadata, text_between, words,
@@ -66,9 +66,9 @@ pub(crate) enum Callee {
     Named(Text),
 }
 
-/// The callee that a name is, at a type.
-fn callee_named(has_result: bool, ret: &IrType, name: Text) -> Option<Callee>
-    ensures { result ≡ callee_named has_result ret.now name }
+/// The callee that a name is.
+fn callee_named(has_result: bool, name: Text) -> Option<Callee>
+    ensures { result ≡ callee_named has_result name }
 {
     if is_dropped_name(name.as_slice()) {
         return if has_result {
@@ -77,27 +77,26 @@ fn callee_named(has_result: bool, ret: &IrType, name: Text) -> Option<Callee>
             Some(Callee::Dropped)
         };
     }
-    if !is_intrinsic(name.as_slice()) || is_minimum(ret, name.as_slice()) {
+    if !is_intrinsic(name.as_slice()) || MinMax::named(name.as_slice()).is_some() {
         Some(Callee::Named(name))
     } else {
         None
     }
 }
 
-/// The callee of a call at a type. A fault stands at a name that may not be called there.
+/// The callee of a call. A fault stands at a name that may not be called.
 pub(crate) fn read_callee(
     alloc: Global,
     tokens: &Tokens<'_>,
     from: usize,
     has_result: bool,
-    ret: &IrType,
 ) -> Result<(Callee, usize), ItemFault>
     requires { from ≤ length tokens.now.tokens }
-    ensures value { Reads tokens.now result (one_at (callee_of has_result ret.now) (left_from tokens.now from)) }
+    ensures value { Reads tokens.now result (one_at (callee_of has_result) (left_from tokens.now from)) }
     ensures forth { IfOk result (λ read. (from < read.1) × (read.1 ≤ length tokens.now.tokens)) }
 {
     let (name, at) = read_global_name(alloc, tokens, from)?;
-    match callee_named(has_result, ret, name) {
+    match callee_named(has_result, name) {
         Some(callee) => Ok((callee, at)),
         None => Err(ItemFault::CannotGoOn { at_token: from }),
     }
@@ -201,7 +200,7 @@ pub(crate) fn read_call(
     ensures forth { IfOk result (λ read. (from < read.1) × (read.1 ≤ length tokens.now.tokens)) }
 {
     let (head, at) = read_head(alloc, tokens, from)?;
-    let (callee, at) = read_callee(alloc, tokens, at, has_result, &head.ret)?;
+    let (callee, at) = read_callee(alloc, tokens, at, has_result)?;
     match callee {
         Callee::Dropped => dropped(alloc, tokens, at),
         Callee::Named(name) => called(alloc, tokens, at, head, name),

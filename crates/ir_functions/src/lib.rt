@@ -5,7 +5,6 @@
 
 mod argument_list;
 mod arguments;
-mod callee;
 mod calls;
 mod definitions;
 mod function;

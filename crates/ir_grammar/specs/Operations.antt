@@ -1,11 +1,10 @@
 -- How instructions are written, one production each, with the names that are mentioned in them; ids are 0.
-use Rattle.std.specs.Prelude.{◌≡◌, ℕ, Bool, true, false, List, [], ◌∷◌, ◌++◌, IsTrue, ◌⊎◌, ◌↔◌, ℤ, pos, Some, None, Contains, All, map, codes, decimal, nat_eq}
+use Rattle.std.specs.Prelude.{◌≡◌, ℕ, Bool, true, false, List, [], ◌∷◌, ◌++◌, IsTrue, ◌⊎◌, ◌↔◌, ℤ, pos, Some, None, Contains, All, map, codes, nat_eq}
 use Rattle.std.specs.List.{starts_with, IsDistinct}
 use Rattle.std.specs.Str.{bytes_eq}
 use Rattle.scev_base.specs.declared.pred.Pred.{Pred}
 use Rattle.scev_base.specs.declared.pred.Pred.TheVariants as pred
 use Rattle.ir_model.specs.declared.types.IrType.{IrType}
-use Rattle.ir_model.specs.declared.types.IrType.TheVariants.{Int}
 use Rattle.ir_model.specs.declared.op.Operand.{Operand}
 use Rattle.ir_model.specs.declared.op.Operand.TheVariants as operand
 use Rattle.ir_model.specs.declared.op.BinOp.{BinOp}
@@ -17,6 +16,7 @@ use Rattle.ir_model.specs.declared.op.PhiEntry.{PhiEntry}
 use Rattle.ir_model.specs.declared.op.Case.{Case}
 use Rattle.ir_model.specs.declared.op.Op.{Op}
 use Rattle.ir_model.specs.declared.op.Op.TheVariants.{Binary, Icmp, Cast, Select, Phi, Freeze, Alloca, Load, Store, Gep, Call, Jump, Branch, Switch, Ret, Unreachable}
+use Rattle.ir_model.specs.Callees.{is_min_max}
 use Rattle.ir_model.specs.Kinds.{FlagKind, Wraps, Exact, Disjoint, NoFlag, flag_kind}
 use Rattle.ir_text.specs.declared.token.TokenKind.TheVariants.{Numeral}
 use Rattle.ir_text.specs.Tokens.{Lexeme}
@@ -201,15 +201,9 @@ SpellsTail text ts = (text ≡ passed_text ts) × (dropped_word (codes "tail") �
 abbrev pub is_intrinsic : List ℕ → Bool
 is_intrinsic name = starts_with nat_eq name (codes "llvm.")
 
--- The name is that of a minimum or a maximum of two operands of so many bits.
-abbrev pub IsMinimumName : ℕ → List ℕ → Type 0
-IsMinimumName width name = (kind : List ℕ) × Contains
-    (codes "umin" ∷ codes "umax" ∷ codes "smin" ∷ codes "smax" ∷ []) kind
-    × (name ≡ codes "llvm." ++ (kind ++ (codes ".i" ++ decimal width)))
-
--- What may be called at a type: what is no intrinsic of LLVM, and the minima and maxima of that type.
-abbrev pub IsCallee : IrType → List ℕ → Type 0
-IsCallee ret name = (is_intrinsic name ≡ false) ⊎ ((width : ℕ) × (ret ≡ Int width) × IsMinimumName width name)
+-- What may be called: what is no intrinsic of LLVM, and the minima and maxima, at whatever type.
+abbrev pub IsCallee : List ℕ → Type 0
+IsCallee name = (is_intrinsic name ≡ false) ⊎ IsTrue (is_min_max name)
 
 -- `case`, with its type and its target
 abbrev pub SpellsCase : Case → Mentioning
@@ -248,7 +242,7 @@ SpellsOp (Gep inbounds kind base indices) words ms ts = (words ≡ [])
 SpellsOp (Call ret callee args) words ms ts = (tail before after : List ℕ) × (arguments : List Argument)
     × (words ≡ tail ∷ before ∷ (map (λ (arg : Argument). arg.words) arguments ++ after ∷ []))
     × (args ≡ map (λ (arg : Argument). arg.typed) arguments)
-    × IsCallee ret callee
+    × IsCallee callee
     × (silent (SpellsTail tail) ⊙ the_word (codes "call") ⊙ silent (SpellsWords before) ⊙ the_type IsReturned ret
     ⊙ silent (one (IsGlobal callee)) ⊙ the_sign 40 ⊙ Listing SpellsArgument arguments ⊙ the_sign 41
     ⊙ silent (SpellsWords after)) ms ts

@@ -1,11 +1,11 @@
 //! Declarations of functions without a body.
 
 ghost use Rattle.std.specs.Prelude.{◌≡◌, ◌<◌, ◌≤◌, length, IfOk};
-ghost use Rattle.ir_grammar.specs.Functions.{is_dropped_name};
 ghost use Rattle.ir_parts.specs.Reading.{left_from, Reads};
 ghost use Rattle.ir_parts.specs.Sentences.{Tells};
 ghost use Rattle.ir_items.specs.DeclaredReading.{one_param_at, some_params_at, next_param_at, no_params_at, closed_params_at, taken_params_at, declare_head_at, dropped_declare_at, kept_declare_at, behind_head_at, declare_at, SpellsDeclareIfAny};
 
+use ir_grammar::is_dropped_name;
 use ir_lex::Tokens;
 use ir_model::{Declare, DeclaredParam, IrType, Text};
 use ir_parts::{
@@ -80,13 +80,6 @@ fn behind_head(
     } else {
         kept(alloc, tokens, from, head)
     }
-}
-
-/// Whether calls and declarations of a function of this name are dropped.
-fn is_dropped_name(name: &[u8]) -> bool
-    ensures { result ≡ is_dropped_name name.now }
-{
-    name.starts_with(b"llvm.dbg.".as_slice()) || name.starts_with(b"llvm.lifetime.".as_slice())
 }
 
 /// What stands behind the name of a declaration that is dropped.

@@ -6,6 +6,7 @@ ghost use Rattle.ir_parts.specs.Reading.{left_from, begins, Passes};
 ghost use Rattle.ir_left_out.specs.Begun.{is_intrinsic_token, EndsCall, CallsIntrinsic, begun_call_at};
 
 use crate::begun::last_call;
+use ir_grammar::is_intrinsic as names_intrinsic;
 use ir_lex::Tokens;
 use ir_parts::{ItemFault, behind_keyword, read_global_name, read_returned_type, run};
 use std::alloc::{AllocError, Global};
@@ -32,7 +33,7 @@ fn is_intrinsic(alloc: Global, tokens: &Tokens<'_>, at: usize) -> Result<bool, A
     ensures { IfOk result (λ is. is ≡ begins is_intrinsic_token (left_from tokens.now at)) }
 {
     match read_global_name(alloc, tokens, at) {
-        Ok((name, _)) => Ok(name.as_slice().starts_with(b"llvm.".as_slice())),
+        Ok((name, _)) => Ok(names_intrinsic(name.as_slice())),
         Err(ItemFault::CannotGoOn { .. }) => Ok(false),
         Err(ItemFault::OutOfMemory) => Err(AllocError),
     }

@@ -16,7 +16,7 @@ use Rattle.ir_meaning.specs.declared.phase.Phase.{Phase}
 use Rattle.ir_meaning.specs.declared.phase.Phase.TheVariants as phase
 use Rattle.ir_meaning.specs.State.{State, Event, Registers, is_running}
 use Rattle.ir_meaning.specs.Operands.{operand_value}
-use Rattle.ir_model.specs.Kinds.{is_minimum}
+use Rattle.ir_model.specs.Callees.{is_min_max}
 use Rattle.ir_model.specs.Shapes.{block_of}
 use Rattle.ir_meaning.specs.Step.{instr_at}
 use Rattle.ir_meaning.specs.declared.choice.Choice.{Choice}
@@ -62,7 +62,7 @@ RefinesPhase _ _ = ⊥
 -- the call of the outside at which a running state stands: the callee, and the operands; the outside sees no call of a
 -- minimum or a maximum
 abbrev pub call_of : Op → Option (List ℕ × List TypedOperand)
-call_of (Call ret callee args) = cond (is_minimum ret callee) None (Some (callee, args))
+call_of (Call ret callee args) = cond (is_min_max callee) None (Some (callee, args))
 call_of _ = None
 
 abbrev pub call_at : Function → State → Option (List ℕ × List TypedOperand)

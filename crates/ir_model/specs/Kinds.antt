@@ -1,7 +1,5 @@
 -- Which types stand where, and which flags an operation of two operands has.
-use Rattle.std.specs.Prelude.{◌≡◌, ℕ, Bool, false, List, [], ◌∷◌, map, decimal, codes, ◌++◌}
-use Rattle.std.specs.List.{list_any}
-use Rattle.std.specs.Str.{bytes_eq}
+use Rattle.std.specs.Prelude.{◌≡◌, Bool, false}
 use Rattle.ir_model.specs.declared.types.IrType.{IrType}
 use Rattle.ir_model.specs.declared.types.IrType.TheVariants.{Void, Int, Ptr, Array}
 use Rattle.ir_model.specs.declared.op.BinOp.{BinOp}
@@ -57,12 +55,3 @@ HasFlags NoFlag nuw nsw exact disjoint = (nuw ≡ false) × (nsw ≡ false) × (
 abbrev pub HasNneg : CastOp → Bool → Type 0
 HasNneg cast.Zext nneg = Unit {0}
 HasNneg _ nneg = nneg ≡ false
-
--- the names of the minima and maxima of two operands of so many bits, and whether a callee of the type is one of them
-abbrev pub minimum_names : ℕ → List (List ℕ)
-minimum_names width = map (λ kind. codes "llvm." ++ (kind ++ (codes ".i" ++ decimal width)))
-    (codes "umin" ∷ codes "umax" ∷ codes "smin" ∷ codes "smax" ∷ [])
-
-abbrev pub is_minimum : IrType → List ℕ → Bool
-is_minimum (Int width) callee = list_any (bytes_eq callee) (minimum_names width)
-is_minimum _ callee = false

@@ -1,4 +1,5 @@
 pub mod Kinds
+pub mod Callees
 pub mod Defined
 pub mod Shapes
 pub mod Sites

@@ -4,6 +4,7 @@
 
 mod function;
 mod item;
+mod min_max;
 mod op;
 mod place;
 mod rule;
@@ -13,6 +14,7 @@ mod types;
 
 pub use function::{Block, Function, Instr, Param, ValueInfo};
 pub use item::{Declare, DeclaredParam, Global_, Init, InitPart, Item, Module};
+pub use min_max::MinMax;
 pub use op::{BinOp, Case, CastOp, Op, Operand, PhiEntry, TypedOperand};
 pub use rule::{Place, Rule};
 pub use signature::{Signature, Signatures};

@@ -1,10 +1,12 @@
 -- Rules on single operations: void values, cases of a switch, pointers, calls and what a function returns.
-use Rattle.std.specs.Prelude.{ℕ, ◌==◌, Bool, true, false, not, ◌&&◌, ◌||◌, List, [], ◌∷◌, Option, Some, None, map, find, is_some}
+use Rattle.std.specs.Prelude.{ℕ, ◌==◌, Bool, true, false, not, ◌&&◌, ◌||◌, List, [], ◌∷◌, ◌++◌, Option, Some, None, map, find, is_some, decimal}
+use Rattle.std.specs.List.{list_any}
 use Rattle.std.specs.Str.{bytes_eq}
 use Rattle.scev_base.specs.Residue.{residue}
 use Rattle.scev_base.specs.declared.pred.Pred.{Pred}
 use Rattle.scev_base.specs.declared.pred.Pred.TheVariants as pred
 use Rattle.ir_model.specs.declared.types.IrType.{IrType}
+use Rattle.ir_model.specs.declared.types.IrType.TheVariants.{Int}
 use Rattle.ir_model.specs.declared.op.TypedOperand.{TypedOperand}
 use Rattle.ir_model.specs.declared.op.Case.{Case}
 use Rattle.ir_model.specs.declared.op.Op.{Op}
@@ -15,7 +17,7 @@ use Rattle.ir_model.specs.declared.signature.Signature.{Signature}
 use Rattle.ir_model.specs.declared.signature.Signatures.{Signatures}
 use Rattle.ir_model.specs.declared.rule.Place.{Place}
 use Rattle.ir_model.specs.Defined.{given_type}
-use Rattle.ir_model.specs.Kinds.{is_minimum}
+use Rattle.ir_model.specs.Callees.{min_max_front, all_min_max, is_min_max}
 use Rattle.ir_model.specs.Shapes.{is_void}
 use Rattle.ir_rules.specs.Spots.{Spot, places_where, repeated}
 use Rattle.ir_rules.specs.Types.{is_pointer, same_type, width_of}
@@ -79,11 +81,19 @@ abbrev pub is_declared_so : Bool → IrType → List IrType → Option Signature
 is_declared_so alone ret kinds None = alone
 is_declared_so alone ret kinds (Some signature) = has_types ret kinds signature
 
--- A minimum or a maximum is of two operands of its type, and needs no declaration.
+-- the names of the minima and maxima of two operands of a type
+abbrev pub min_max_names : IrType → List (List ℕ)
+min_max_names (Int width) = map (λ kind. min_max_front kind ++ decimal width) all_min_max
+min_max_names kind = []
+
+abbrev pub is_min_max_of : IrType → List ℕ → Bool
+is_min_max_of kind callee = list_any (bytes_eq callee) (min_max_names kind)
+
+-- A minimum or a maximum is of two operands of the type that its name tells, and needs no declaration.
 abbrev pub call_fits : Signatures → Op → Bool
 call_fits signatures (Call ret callee args) =
-    (not (is_minimum ret callee) || same_types (kinds_of args) (ret ∷ ret ∷ []))
-    && is_declared_so (is_minimum ret callee) ret (kinds_of args) (function_of signatures callee)
+    (not (is_min_max callee) || (is_min_max_of ret callee && same_types (kinds_of args) (ret ∷ ret ∷ [])))
+    && is_declared_so (is_min_max callee) ret (kinds_of args) (function_of signatures callee)
 call_fits signatures _ = true
 
 abbrev pub call_mismatches : Signatures → Function → List Place
