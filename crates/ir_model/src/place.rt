@@ -7,7 +7,7 @@ ghost use Rattle.ir_model.specs.declared.function.Block.{Block};
 ghost use Rattle.ir_model.specs.declared.function.Instr.{Instr};
 ghost use Rattle.ir_model.specs.Defined.{is_value};
 ghost use Rattle.ir_model.specs.Places.{is_param, given_at, place_of};
-ghost use Rattle.ir_model.specs.Shapes.{block_of};
+ghost use Rattle.ir_model.specs.Shapes.{entry, block_of};
 
 use crate::function::{Block, Function, Instr, Param};
 use crate::types::IrType;
@@ -34,6 +34,16 @@ impl Function {
         ensures { (info : ValueInfo) → slice_get self.now.values v.0 ≡ Some info → result.now ≡ info.kind }
     {
         &self.values.as_slice()[v.0 as usize].kind
+    }
+
+    /// The number of the first block in text order, in which each run begins; 0 where there is no block.
+    pub fn entry(&self) -> BlockId
+        ensures { result.0 ≡ entry self.now.blocks }
+    {
+        match self.blocks.as_slice().first() {
+            Some(block) => block.id,
+            None => BlockId(0),
+        }
     }
 
     /// The first block with this number, in text order.
