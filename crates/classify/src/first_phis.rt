@@ -5,7 +5,6 @@ ghost use Rattle.ir_model.specs.Shapes.{leading_phis};
 ghost use Rattle.classify.specs.Recurrence.{phis};
 ghost use Rattle.classify.specs.Definitions.{TellFirst};
 
-use ir_meaning::is_phi;
 use ir_model::{Block, Instr};
 use sqlite_items::Items;
 use std::alloc::{AllocError, Global};
@@ -27,7 +26,7 @@ fn phis_come_first(instrs: &[Instr]) -> bool
 {
     let mut leading = true;
     for instr in instrs {
-        let phi = is_phi(&instr.op);
+        let phi = instr.op.is_phi();
         if phi && !leading {
             return false;
         }

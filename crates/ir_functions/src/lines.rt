@@ -66,19 +66,9 @@ fn ends_block(line: &Line) -> bool
     ensures { result ≡ ends_block line.now }
 {
     match &line.instr {
-        Some(instr) => is_terminator(&instr.op),
+        Some(instr) => instr.op.is_terminator(),
         None => false,
     }
-}
-
-/// Whether an operation ends a block.
-fn is_terminator(op: &Op) -> bool
-    ensures { result ≡ is_terminator op.now }
-{
-    matches!(
-        op,
-        Op::Jump { .. } | Op::Branch { .. } | Op::Switch { .. } | Op::Ret { .. } | Op::Unreachable
-    )
 }
 
 /// An instruction, or what is dropped.
@@ -190,7 +180,7 @@ fn gives_value(op: &Op) -> bool
     match op {
         Op::Store { .. } => false,
         Op::Call { ret, .. } => !is_void(ret),
-        _ => !is_terminator(op),
+        _ => !op.is_terminator(),
     }
 }
 

@@ -1,9 +1,14 @@
--- The effects that a machine finds, as the effects of a step.
-use Rattle.ir_meaning.specs.declared.effect.Effect.{Effect as Found}
-use Rattle.ir_meaning.specs.declared.effect.Effect.TheVariants as found
-use Rattle.ir_meaning.specs.Step.{Effect, Gives, Enters, Ends}
+-- What a machine computes, and where it goes, as in the definitions of a step.
+use Rattle.ir_meaning.specs.declared.effect.Computed.{Computed as Found}
+use Rattle.ir_meaning.specs.declared.effect.Computed.TheVariants as found
+use Rattle.ir_meaning.specs.declared.effect.Way.{Way as FoundWay}
+use Rattle.ir_meaning.specs.declared.effect.Way.TheVariants as found_way
+use Rattle.ir_meaning.specs.Step.{Computed, Gives, Fails, Way, Enters, Leaves}
 
-abbrev pub meant : Found → Effect
+abbrev pub meant : Found → Computed
 meant (found.Gives x) = Gives x
-meant (found.Enters to) = Enters to.0
-meant (found.Ends how) = Ends how
+meant (found.Fails how) = Fails how
+
+abbrev pub meant_way : FoundWay → Way
+meant_way (found_way.Enters to) = Enters to.0
+meant_way (found_way.Leaves how) = Leaves how

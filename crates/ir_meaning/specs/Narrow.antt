@@ -4,7 +4,7 @@ use Rattle.scev_base.specs.declared.ids.ValueId.{ValueId}
 use Rattle.ir_model.specs.declared.types.IrType.{IrType}
 use Rattle.ir_model.specs.declared.types.IrType.TheVariants.{Int}
 use Rattle.ir_model.specs.declared.op.Op.{Op}
-use Rattle.ir_model.specs.declared.op.Op.TheVariants.{Binary, Icmp, Cast, Select, Phi, Switch, Ret}
+use Rattle.ir_model.specs.declared.op.Op.TheVariants.{Binary, Icmp, Cast, Select, Phi, Call, Switch, Ret}
 
 -- A type whose integers, if it has any, have 1 to 64 bits.
 abbrev pub IsNarrow : IrType → Type 0
@@ -18,6 +18,7 @@ IsNarrowOp (Icmp pred kind left right) = IsNarrow kind
 IsNarrowOp (Cast op nneg from operand to) = IsNarrow from × IsNarrow to
 IsNarrowOp (Select cond left right) = IsNarrow left.kind × IsNarrow right.kind
 IsNarrowOp (Phi kind entries) = IsNarrow kind
+IsNarrowOp (Call ret callee args) = IsNarrow ret
 IsNarrowOp (Switch kind operand other cases) = IsNarrow kind
 IsNarrowOp (Ret (Some typed)) = IsNarrow typed.kind
 IsNarrowOp _ = Unit {0}

@@ -4,6 +4,8 @@ use Rattle.std.specs.Int.{int_div_euclid}
 use Rattle.scev_base.specs.Residue.{residue, reading}
 use Rattle.scev_base.specs.declared.pred.Pred.{Pred}
 use Rattle.scev_base.specs.declared.pred.Pred.TheVariants as pred
+use Rattle.ir_model.specs.declared.min_max.MinMax.{MinMax}
+use Rattle.ir_model.specs.declared.min_max.MinMax.TheVariants.{Umin, Umax, Smin, Smax}
 use Rattle.ir_model.specs.declared.op.BinOp.{BinOp}
 use Rattle.ir_model.specs.declared.op.BinOp.TheVariants as binary
 use Rattle.ir_model.specs.declared.op.CastOp.{CastOp}
@@ -132,6 +134,13 @@ converted cast.Zext nneg v w (value.Number a) =
 converted cast.Sext nneg v w (value.Number a) = value.Number (residue w (reading v a))
 converted cast.Trunc nneg v w (value.Number a) = value.Number (a % 2 ^ w)
 converted op nneg v w _ = value.Poison
+
+-- the minima and maxima, in the unsigned and the signed reading
+abbrev pub min_max_row : MinMax → ℕ → ℕ → ℕ → Value
+min_max_row Umin w a b = value.Number (if nat_le a b then a else b)
+min_max_row Umax w a b = value.Number (if nat_le a b then b else a)
+min_max_row Smin w a b = value.Number (if int_le (reading w a) (reading w b) then a else b)
+min_max_row Smax w a b = value.Number (if int_le (reading w a) (reading w b) then b else a)
 
 -- whether a comparison holds
 abbrev pub holds : Pred → ℕ → ℕ → ℕ → Bool

@@ -1,25 +1,25 @@
-//! What instructions do that give values.
+//! What is computed from operands.
 
-ghost use Rattle.std.specs.Prelude.{◌≡◌, if◌then◌else◌};
-ghost use Rattle.ir_model.specs.declared.op.Op.TheVariants.{Binary, Icmp, Cast, Select};
-ghost use Rattle.ir_meaning.specs.Step.{effect as meaning, given as given_by, arm_value, chosen_arm as meaning_of_arms};
+ghost use Rattle.std.specs.Prelude.{◌≡◌, if◌then◌else◌, Some};
+ghost use Rattle.ir_model.specs.declared.op.Op.TheVariants.{Binary, Icmp, Cast, Select, Call};
+ghost use Rattle.ir_meaning.specs.Step.{computed as meaning, given as given_by, called, arm_value, chosen_arm as meaning_of_arms};
 ghost use Rattle.ir_meaning.specs.Stands.{register};
 ghost use Rattle.ir_meaning.specs.Narrow.{IsNarrow};
 ghost use Rattle.ir_meaning.specs.Effects.{meant};
 
-use crate::comparisons::compared;
+use crate::comparisons::{compared, least_or_greatest};
 use crate::conversions::converted;
-use crate::effect::{Effect, stuck};
+use crate::effect::{Computed, stuck};
 use crate::operand::{integer_value, operand_value};
 use crate::operations::{Flags, operation};
 use crate::phase::Phase;
 use crate::pointers::compared_pointers;
 use crate::value::Value;
-use ir_model::{BinOp, CastOp, IrType, Operand, TypedOperand};
+use ir_model::{BinOp, CastOp, IrType, MinMax, Operand, TypedOperand};
 use scev_base::{Pred, Width};
 
-/// What an operation of two operands does.
-pub(crate) fn effect_of_binary(
+/// What an operation of two operands gives.
+pub(crate) fn computed_binary(
     registers: &[Option<Value>],
     n: u64,
     op: BinOp,
@@ -27,7 +27,7 @@ pub(crate) fn effect_of_binary(
     kind: &IrType,
     left: &Operand,
     right: &Operand,
-) -> Effect
+) -> Computed
     requires { IsNarrow kind.now }
     ensures { meant result ≡ meaning (register registers.now) n
         (Binary op flags.nuw flags.nsw flags.exact flags.disjoint kind.now left.now right.now) }
@@ -46,24 +46,24 @@ pub(crate) fn effect_of_binary(
 }
 
 /// What follows from the value of an operation; without one the behaviour is undefined.
-fn given(value: Option<Value>) -> Effect
+fn given(value: Option<Value>) -> Computed
     ensures { meant result ≡ given_by value }
 {
     match value {
-        Some(x) => Effect::Gives(x),
-        None => Effect::Ends(Phase::Undefined),
+        Some(x) => Computed::Gives(x),
+        None => Computed::Fails(Phase::Undefined),
     }
 }
 
-/// What `icmp` does.
-pub(crate) fn effect_of_icmp(
+/// What `icmp` gives.
+pub(crate) fn computed_icmp(
     registers: &[Option<Value>],
     n: u64,
     pred: Pred,
     kind: &IrType,
     left: &Operand,
     right: &Operand,
-) -> Effect
+) -> Computed
     requires { IsNarrow kind.now }
     ensures { meant result ≡ meaning (register registers.now) n
         (Icmp pred kind.now left.now right.now) }
@@ -87,7 +87,7 @@ pub(crate) fn effect_of_icmp(
     }
 }
 
-/// What `icmp` of integers of the width does.
+/// What `icmp` of integers of the width gives.
 fn icmp_of_integers(
     registers: &[Option<Value>],
     n: u64,
@@ -95,7 +95,7 @@ fn icmp_of_integers(
     w: Width,
     left: &Operand,
     right: &Operand,
-) -> Effect
+) -> Computed
     ensures { meant result ≡ meaning (register registers.now) n
         (Icmp pred (IrType.Int w.bits) left.now right.now) }
 {
@@ -103,19 +103,19 @@ fn icmp_of_integers(
         return stuck();
     };
     match integer_value(registers, n, w, right) {
-        Some(b) => Effect::Gives(compared(pred, w, a, b)),
+        Some(b) => Computed::Gives(compared(pred, w, a, b)),
         None => stuck(),
     }
 }
 
-/// What `icmp` of pointers does, by `eq` where `equal` is given and by `ne` where not.
+/// What `icmp` of pointers gives, by `eq` where `equal` is given and by `ne` where not.
 fn icmp_of_pointers(
     registers: &[Option<Value>],
     n: u64,
     equal: bool,
     left: &Operand,
     right: &Operand,
-) -> Effect
+) -> Computed
     ensures { meant result ≡ meaning (register registers.now) n
         (Icmp (if equal then Pred.Eq else Pred.Ne) IrType.Ptr left.now right.now) }
 {
@@ -123,13 +123,13 @@ fn icmp_of_pointers(
         return stuck();
     };
     match operand_value(registers, n, &IrType::Ptr, right) {
-        Some(b) => Effect::Gives(compared_pointers(equal, n, a, b)),
+        Some(b) => Computed::Gives(compared_pointers(equal, n, a, b)),
         None => stuck(),
     }
 }
 
-/// What a conversion does.
-pub(crate) fn effect_of_cast(
+/// What a conversion gives.
+pub(crate) fn computed_cast(
     registers: &[Option<Value>],
     n: u64,
     op: CastOp,
@@ -137,7 +137,7 @@ pub(crate) fn effect_of_cast(
     from: &IrType,
     operand: &Operand,
     to: &IrType,
-) -> Effect
+) -> Computed
     requires from { IsNarrow from.now }
     requires to { IsNarrow to.now }
     ensures { meant result ≡ meaning (register registers.now) n
@@ -152,19 +152,19 @@ pub(crate) fn effect_of_cast(
     };
     let w = Width { bits: *bits };
     match integer_value(registers, n, v, operand) {
-        Some(x) => Effect::Gives(converted(op, nneg, v, w, x)),
+        Some(x) => Computed::Gives(converted(op, nneg, v, w, x)),
         None => stuck(),
     }
 }
 
-/// What `select` does.
-pub(crate) fn effect_of_select(
+/// What `select` gives.
+pub(crate) fn computed_select(
     registers: &[Option<Value>],
     n: u64,
     cond: &Operand,
     left: &TypedOperand,
     right: &TypedOperand,
-) -> Effect
+) -> Computed
     requires left { IsNarrow left.now.kind }
     requires right { IsNarrow right.now.kind }
     ensures { meant result ≡ meaning (register registers.now) n (Select cond.now left.now right.now) }
@@ -183,7 +183,7 @@ fn chosen_arm(
     left: &TypedOperand,
     right: &TypedOperand,
     cond: Value,
-) -> Effect
+) -> Computed
     requires left { IsNarrow left.now.kind }
     requires right { IsNarrow right.now.kind }
     ensures { meant result ≡ meaning_of_arms (register registers.now) n left.now right.now cond }
@@ -191,17 +191,62 @@ fn chosen_arm(
     match cond {
         Value::Number(0) => arm(registers, n, right),
         Value::Number(_) => arm(registers, n, left),
-        _ => Effect::Gives(Value::Poison),
+        _ => Computed::Gives(Value::Poison),
     }
 }
 
 /// What an arm of a `select` gives.
-fn arm(registers: &[Option<Value>], n: u64, typed: &TypedOperand) -> Effect
+fn arm(registers: &[Option<Value>], n: u64, typed: &TypedOperand) -> Computed
     requires { IsNarrow typed.now.kind }
     ensures { meant result ≡ arm_value (register registers.now) n typed.now }
 {
     match operand_value(registers, n, &typed.kind, &typed.value) {
-        Some(x) => Effect::Gives(x),
+        Some(x) => Computed::Gives(x),
+        None => stuck(),
+    }
+}
+
+/// What a call gives that is one of a minimum or a maximum (LLVM Language Reference, "llvm.umin.* Intrinsic" and
+/// kin).
+pub(crate) fn computed_call(
+    registers: &[Option<Value>],
+    n: u64,
+    ret: &IrType,
+    callee: &[u8],
+    args: &[TypedOperand],
+) -> Computed
+    requires { IsNarrow ret.now }
+    ensures { meant result ≡ meaning (register registers.now) n (Call ret.now callee.now args.now) }
+{
+    let IrType::Int(bits) = ret else {
+        return stuck();
+    };
+    let w = Width { bits: *bits };
+    let [left, right] = args else {
+        return stuck();
+    };
+    match MinMax::named(callee) {
+        Some(kind) => min_max(registers, n, kind, w, &left.value, &right.value),
+        None => stuck(),
+    }
+}
+
+/// What a minimum or a maximum of two operands of the width gives.
+fn min_max(
+    registers: &[Option<Value>],
+    n: u64,
+    kind: MinMax,
+    w: Width,
+    left: &Operand,
+    right: &Operand,
+) -> Computed
+    ensures { meant result ≡ called (register registers.now) n w.bits (Some kind) left.now right.now }
+{
+    let Some(a) = integer_value(registers, n, w, left) else {
+        return stuck();
+    };
+    match integer_value(registers, n, w, right) {
+        Some(b) => Computed::Gives(least_or_greatest(kind, w, a, b)),
         None => stuck(),
     }
 }

@@ -22,10 +22,10 @@ mod start;
 mod sums;
 mod switches;
 mod value;
+mod ways;
 mod wraps;
 
 pub use choice::Choice;
-pub use lookup::is_phi;
 pub use machine::Machine;
 pub use phase::Phase;
 pub use value::Value;

@@ -3,9 +3,9 @@
 ghost use Rattle.std.specs.Prelude.{◌≡◌, ◌<◌, OnSome, slice_get};
 ghost use Rattle.std.specs.Option.{option_copied};
 ghost use Rattle.ir_model.specs.Shapes.{block_of as block_of_number};
-ghost use Rattle.ir_model.specs.Shapes.{is_phi as is_of_phi, leading_phis as phis_at_head};
+ghost use Rattle.ir_model.specs.Shapes.{leading_phis as phis_at_head};
 
-use ir_model::{Block, Function, Instr, Op};
+use ir_model::{Block, Function, Instr};
 use scev_base::BlockId;
 use sqlite_items::at;
 
@@ -29,13 +29,6 @@ pub(crate) fn instr_of(block: &Block, place: usize) -> Option<&Instr>
 pub(crate) fn leading_phis(instrs: &[Instr]) -> &[Instr]
     ensures { result.now ≡ phis_at_head instrs.now }
 {
-    let count = instrs.iter().take_while(|instr| is_phi(&instr.op)).count();
+    let count = instrs.iter().take_while(|instr| instr.op.is_phi()).count();
     &instrs[..count]
-}
-
-/// Whether the operation is a phi.
-pub fn is_phi(op: &Op) -> bool
-    ensures { result ≡ is_of_phi op.now }
-{
-    matches!(op, Op::Phi { .. })
 }

@@ -1,25 +1,27 @@
 //! A machine that carries out functions of the thin forms.
 
-ghost use Rattle.std.specs.Prelude.{◌≡◌, ℕ, ◌<◌, ◌≤◌, ◌≢◌, length, IsOk, IfOk};
+ghost use Rattle.std.specs.Prelude.{◌≡◌, ℕ, ◌<◌, ◌≤◌, ◌≢◌, length, Some, IsOk, IfOk};
 ghost use Rattle.std.specs.Option.{option_copied};
 ghost use Rattle.ir_meaning.specs.State.{State};
 ghost use Rattle.ir_model.specs.Shapes.{block_of as block_of_number};
-ghost use Rattle.ir_meaning.specs.Step.{entered, instr_at, carried_out, step as stepped};
+ghost use Rattle.ir_meaning.specs.Step.{computed, gone, way, after_effect, after_way, entered, instr_at, carried_out, step as stepped};
 ghost use Rattle.ir_meaning.specs.Run.{ArgsFit, start as start_of, after};
 ghost use Rattle.ir_meaning.specs.Zeros.{zeros};
 ghost use Rattle.ir_meaning.specs.Thin.{IsThinFunction};
+ghost use Rattle.ir_meaning.specs.Narrow.{IsNarrowOp, HasPlace};
 ghost use Rattle.ir_meaning.specs.Stands.{Stands, register as held_in};
 
 use crate::choice::Choice;
-use crate::effect::{Effect, effect_of};
+use crate::effect::{Computed, Way, computed_of};
 use crate::lookup::{block_of, instr_of, leading_phis};
 use crate::operand::held;
 use crate::phase::Phase;
 use crate::phis::{carry_out_phis, set};
-use crate::start::{entry, set_args, unset};
+use crate::start::{set_args, unset};
 use crate::value::Value;
+use crate::ways::way_of;
 use ir_memory::Blocks;
-use ir_model::{Block, Function};
+use ir_model::{Block, Function, Instr, Op};
 use scev_base::{BlockId, ValueId};
 use std::alloc::AllocError;
 use std::marker::Model;
@@ -74,7 +76,7 @@ impl Machine {
         let room = unset(alloc, f.values.len())?;
         set_args(&mut registers, f.params.as_slice(), &args);
         Ok(Machine {
-            block: entry(f.blocks.as_slice()),
+            block: f.entry(),
             place: 0,
             previous: None,
             registers,
@@ -118,7 +120,7 @@ impl Machine {
     {
         if self.phase.is_running() {
             let block = block_of(f, self.block);
-            let _ = self.carry_out(f, block, choice.number());
+            let _ = self.carry_out(f, block, &choice);
         }
         Ok(())
     }
@@ -138,11 +140,12 @@ impl Machine {
             → (k : ℕ) → k < made → (after f.now s (zeros k)).phase ≡ Phase.Running) }
     {
         let mut block = block_of(f, self.block);
+        let choice = Choice::Number(0);
         for made in 0..steps {
             if !self.phase.is_running() {
                 return Ok(made);
             }
-            block = self.carry_out(f, block, 0);
+            block = self.carry_out(f, block, &choice);
         }
         Ok(steps)
     }
@@ -153,7 +156,7 @@ impl Machine {
         &mut self,
         f: &'f Function,
         block: Option<&'f Block>,
-        n: u64,
+        choice: &Choice,
     ) -> Option<&'f Block>
         requires thin { IsThinFunction f.now }
         requires room { length self.old.registers ≡ length f.now.values }
@@ -162,7 +165,7 @@ impl Machine {
         ensures here { self.new.phase ≡ Phase.Running
             → option_copied result ≡ block_of_number f.now self.new.block }
         ensures exact { (s : State) → Stands self.old s
-            → Stands self.new (carried_out f.now n s (instr_at f.now s)) }
+            → Stands self.new (carried_out f.now choice.now s (instr_at f.now s)) }
     {
         let Some(block) = block else {
             return self.end(Phase::Stuck);
@@ -170,14 +173,49 @@ impl Machine {
         let Some(instr) = instr_of(block, self.place) else {
             return self.end(Phase::Stuck);
         };
-        match effect_of(&self.registers, n, &instr.op) {
-            Effect::Gives(x) => {
+        let n = choice.number();
+        if instr.op.is_terminator() {
+            self.follow(f, n, &instr.op)
+        } else {
+            self.compute(block, n, instr)
+        }
+    }
+
+    /// Carries out a terminator. It answers the block in which the machine stands then, unless it has ended.
+    fn follow<'f>(&mut self, f: &'f Function, n: u64, op: &Op) -> Option<&'f Block>
+        requires thin { IsThinFunction f.now }
+        requires narrow { IsNarrowOp op.now }
+        requires room { length self.old.registers ≡ length f.now.values }
+        ensures room { length self.new.registers ≡ length f.now.values }
+        ensures here { self.new.phase ≡ Phase.Running
+            → option_copied result ≡ block_of_number f.now self.new.block }
+        ensures exact { (s : State) → Stands self.old s
+            → Stands self.new (after_way f.now n s (way s.registers n op.now)) }
+    {
+        match way_of(&self.registers, n, op) {
+            Way::Enters(to) => self.enter(f, n, to),
+            Way::Leaves(how) => self.end(how),
+        }
+    }
+
+    /// Carries out another instruction of the block. It answers the block, unless the machine has ended.
+    fn compute<'f>(&mut self, block: &'f Block, n: u64, instr: &Instr) -> Option<&'f Block>
+        requires narrow { IsNarrowOp instr.now.op }
+        requires place { HasPlace (length self.old.registers) instr.now.result }
+        requires within { self.old.place < usize.MAX }
+        ensures room { length self.new.registers ≡ length self.old.registers }
+        ensures here { self.new.phase ≡ Phase.Running
+            → (option_copied result ≡ Some block.now) × (self.new.block ≡ self.old.block) }
+        ensures exact { (s : State) → Stands self.old s
+            → Stands self.new (after_effect instr.now.result s (gone s (computed s.registers n instr.now.op))) }
+    {
+        match computed_of(&self.registers, n, &instr.op) {
+            Computed::Gives(x) => {
                 set(&mut self.registers, instr.result, x);
                 self.place += 1;
                 Some(block)
             }
-            Effect::Enters(to) => self.enter(f, n, to),
-            Effect::Ends(how) => self.end(how),
+            Computed::Fails(how) => self.end(how),
         }
     }
 

@@ -1,14 +1,12 @@
 //! Registers at the start of a run.
 
 ghost use Rattle.std.specs.Prelude.{◌≡◌, ◌<◌, All, IfOk, length, replicate};
-ghost use Rattle.ir_model.specs.Shapes.{entry as first_block};
 ghost use Rattle.ir_meaning.specs.Run.{with_args};
 ghost use Rattle.ir_meaning.specs.Stands.{register};
 
 use crate::phis::set;
 use crate::value::Value;
-use ir_model::{Block, Param};
-use scev_base::BlockId;
+use ir_model::Param;
 use std::alloc::{AllocError, Global};
 
 /// So many registers that aren't set.
@@ -25,15 +23,5 @@ pub(crate) fn set_args(registers: &mut [Option<Value>], params: &[Param], args: 
 {
     for (param, x) in params.iter().zip(args) {
         set(registers, Some(param.value), *x);
-    }
-}
-
-/// The first block in text order.
-pub(crate) fn entry(blocks: &[Block]) -> BlockId
-    ensures { result.0 ≡ first_block blocks.now }
-{
-    match blocks {
-        [] => BlockId(0),
-        [first, ..] => first.id,
     }
 }

@@ -1,51 +1,52 @@
 //! Where a switch leads.
 
 ghost use Rattle.std.specs.Prelude.{◌≡◌};
-ghost use Rattle.ir_meaning.specs.Step.{effect as meaning, switched as meaning_of_switch};
+ghost use Rattle.ir_meaning.specs.Step.{way as meaning, switched as meaning_of_switch};
 ghost use Rattle.ir_meaning.specs.Step.{case_target as target_of_case};
 ghost use Rattle.ir_meaning.specs.Stands.{register};
 ghost use Rattle.ir_meaning.specs.Narrow.{IsNarrow};
-ghost use Rattle.ir_meaning.specs.Effects.{meant};
+ghost use Rattle.ir_meaning.specs.Effects.{meant_way};
 ghost use Rattle.ir_model.specs.declared.op.Op.TheVariants.{Switch};
 
-use crate::effect::{Effect, stuck};
+use crate::effect::Way;
 use crate::operand::integer_value;
 use crate::phase::Phase;
 use crate::value::Value;
+use crate::ways::nowhere;
 use ir_model::{Case, IrType, Operand};
 use scev_base::{BlockId, Width, wrap};
 
-/// What `switch` does.
-pub(crate) fn effect_of_switch(
+/// Where `switch` leads.
+pub(crate) fn way_of_switch(
     registers: &[Option<Value>],
     n: u64,
     kind: &IrType,
     operand: &Operand,
     other: BlockId,
     cases: &[Case],
-) -> Effect
+) -> Way
     requires { IsNarrow kind.now }
-    ensures { meant result ≡ meaning (register registers.now) n
+    ensures { meant_way result ≡ meaning (register registers.now) n
         (Switch kind.now operand.now other cases.now) }
 {
     let IrType::Int(bits) = kind else {
-        return stuck();
+        return nowhere();
     };
     let w = Width { bits: *bits };
     match integer_value(registers, n, w, operand) {
         Some(x) => switched(w, cases, other, x),
-        None => stuck(),
+        None => nowhere(),
     }
 }
 
 /// Where a switch on a value leads. On poison the behaviour is undefined (LLVM Language Reference, "switch
 /// Instruction").
-fn switched(w: Width, cases: &[Case], other: BlockId, x: Value) -> Effect
-    ensures { meant result ≡ meaning_of_switch w.bits cases.now other.0 x }
+fn switched(w: Width, cases: &[Case], other: BlockId, x: Value) -> Way
+    ensures { meant_way result ≡ meaning_of_switch w.bits cases.now other.0 x }
 {
     match x {
-        Value::Number(x) => Effect::Enters(case_target(w, cases, other, x)),
-        _ => Effect::Ends(Phase::Undefined),
+        Value::Number(x) => Way::Enters(case_target(w, cases, other, x)),
+        _ => Way::Leaves(Phase::Undefined),
     }
 }
 

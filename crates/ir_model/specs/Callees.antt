@@ -1,5 +1,5 @@
 -- The names of the minima and maxima of two integers.
-use Rattle.std.specs.Prelude.{◌≡◌, ℕ, Bool, false, ◌&&◌, not, List, [], ◌∷◌, ◌++◌, length, drop, Option, find, is_some, codes, nat_eq}
+use Rattle.std.specs.Prelude.{ℕ, Bool, false, ◌&&◌, not, List, [], ◌∷◌, length, drop, Option, find, is_some, codes, nat_eq}
 use Rattle.std.specs.List.{starts_with, list_all}
 use Rattle.std.specs.Char.{is_ascii_digit}
 use Rattle.ir_model.specs.declared.min_max.MinMax.{MinMax}

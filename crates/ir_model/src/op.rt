@@ -1,5 +1,8 @@
 //! Instructions without their results, and operands.
 
+ghost use Rattle.std.specs.Prelude.{◌≡◌};
+ghost use Rattle.ir_model.specs.Shapes.{is_phi, is_terminator};
+
 use crate::types::{IrType, Text};
 use scev_base::{BlockId, Pred, ValueId};
 use sqlite_items::Items;
@@ -151,4 +154,27 @@ pub enum Op {
         value: Option<TypedOperand>,
     },
     Unreachable,
+}
+
+impl Op {
+    /// Whether it ends a block (LLVM Language Reference, "Terminator Instructions").
+    pub fn is_terminator(&self) -> bool
+        ensures { result ≡ is_terminator self.now }
+    {
+        matches!(
+            self,
+            Op::Jump { .. }
+                | Op::Branch { .. }
+                | Op::Switch { .. }
+                | Op::Ret { .. }
+                | Op::Unreachable
+        )
+    }
+
+    /// Whether it is a phi.
+    pub fn is_phi(&self) -> bool
+        ensures { result ≡ is_phi self.now }
+    {
+        matches!(self, Op::Phi { .. })
+    }
 }

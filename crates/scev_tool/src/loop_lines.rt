@@ -12,7 +12,6 @@ ghost use Rattle.ir_printer.specs.Shown.{shown};
 ghost use Rattle.scev_tool.specs.Report.{AreLoopLines, IsPhiLine, InPieces, phi_line, loop_line, recurrence_text, expression_text};
 
 use classify::{Definitions, classify_phi};
-use ir_meaning::is_phi;
 use ir_model::{Block, Function, Instr};
 use ir_printer::{Names, push_block_name, push_value_name};
 use itoa::Buffer;
@@ -92,7 +91,7 @@ fn push_phi(
 fn phi_result(instr: &Instr) -> Option<ValueId>
     ensures { result ≡ cond (is_of_phi instr.now.op) instr.now.result None }
 {
-    if is_phi(&instr.op) {
+    if instr.op.is_phi() {
         instr.result
     } else {
         None
