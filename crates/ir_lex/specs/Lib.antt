@@ -1,4 +1,5 @@
 pub mod Tokenized
+pub mod Packed
 pub mod InOrder
 pub mod Lengths
 pub mod FirstToken

@@ -20,6 +20,7 @@ mod first_token;
 // All tokens of a text.
 mod error;
 mod list;
+mod packed;
 mod tokenize;
 
 // What holds of every text.

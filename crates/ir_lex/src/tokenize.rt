@@ -10,13 +10,14 @@ use crate::error::LexError;
 use crate::first_token::first_token;
 use crate::gap::gap_len;
 use crate::list::Tokens;
+use crate::packed::Packed;
 use ir_text::Token;
 use std::alloc::{AllocError, Global};
 
 /// The tokens of an input, which they borrow.
 ///
 /// `BadByte` comes exactly where a byte begins no token, comment or blank, for the first such byte; `OutOfMemory`
-/// where there is no memory for the list.
+/// where there is no memory for the list, or a token ends past 4 GiB.
 pub fn tokens(alloc: Global, input: &[u8]) -> Result<Tokens<'_>, LexError>
     ensures input { IfOk result (λ t. t.bytes ≡ input.now) }
     ensures lexemes { IfOk result (λ t. AreLexemes input.now (lexemes t)) }
@@ -37,7 +38,8 @@ pub fn tokens(alloc: Global, input: &[u8]) -> Result<Tokens<'_>, LexError>
 /// In `a ~` that is the word `a`, and the place 2, of the `~`, with which nothing begins. Where every byte belongs to
 /// a token, a comment or a blank, the place is the input's length.
 ///
-/// The error comes only where there is no memory for the list. Time linear in the input, apart from the memory.
+/// The error comes only where there is no memory for the list, or a token ends past 4 GiB. Time linear in the input,
+/// apart from the memory.
 pub fn lex(alloc: Global, input: &[u8]) -> Result<(Tokens<'_>, usize), AllocError>
     ensures input { IfOk result (λ lexed. lexed.0.bytes ≡ input.now) }
     ensures lexed { IfOk result (λ lexed. Lexed 0 input.now (placed lexed.0) lexed.1) }
@@ -54,7 +56,10 @@ pub fn lex(alloc: Global, input: &[u8]) -> Result<(Tokens<'_>, usize), AllocErro
             return Ok((Tokens::new(input, found), from));
         };
         let to = from + len;
-        if found.push(Token { kind, from, to }).is_err() {
+        let Some(token) = Packed::pack(Token { kind, from, to }) else {
+            return Err(AllocError);
+        };
+        if found.push(token).is_err() {
             return Err(AllocError);
         }
         end = to;

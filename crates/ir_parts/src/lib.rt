@@ -29,7 +29,7 @@ pub use global_names::read_global_name;
 pub use literals::{numeral, word_operand};
 pub use metadata::{
     braces as skip_braces, metadata as behind_metadata, skip_bare_attachment, skip_metadata,
-    skip_node, skip_pairs, starts_metadata_word, starts_part,
+    skip_node, skip_pairs, starts_metadata, starts_metadata_word, starts_part,
 };
 pub use names::{before_last, behind_first, is_global, is_label, is_local, starts_local};
 pub use numbers::{are_digits, int_width_of, small_number};

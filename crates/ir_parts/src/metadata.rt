@@ -254,7 +254,8 @@ fn starts_bang(tokens: &Tokens<'_>, from: usize) -> bool
     }
 }
 
-fn starts_metadata(tokens: &Tokens<'_>, from: usize) -> bool
+/// Whether the token at a place is any token of metadata.
+pub fn starts_metadata(tokens: &Tokens<'_>, from: usize) -> bool
     ensures value { result ≡ begins is_metadata (left_from tokens.now from) }
     ensures within { IsTrue result → (from < length tokens.now.tokens) × (from + 1 < 2 ^ 64) }
 {

@@ -2,15 +2,14 @@
 
 ghost use Rattle.std.specs.Prelude.{◌≡◌, ◌<◌, ◌≤◌, length, IfOk};
 ghost use Rattle.ir_parts.specs.Reading.{left_from, ReadsAs, begins};
-ghost use Rattle.ir_parts.specs.MetadataReading.{is_metadata};
 ghost use Rattle.ir_parts.specs.Places.{mentions_at};
 ghost use Rattle.ir_reader.specs.ItemsReading.{barred_behind, bare_item, sites_if_any, is_global_name, ends_in_comma, with_item, free_item_at, global_item_at, metadata_dropped_at, declare_item_at, function_item_at, line_item_at, defined_or_line_at, worded_item_at, unnamed_item_at, item_at, ReadsAll};
 
 use ir_functions::read_function;
 use ir_items::{GlobalEnding, ended_global, read_declare, read_passed_line, skip_metadata_item};
-use ir_lex::{TokenKind, Tokens};
+use ir_lex::Tokens;
 use ir_model::Item;
-use ir_parts::{Ending, ItemFault, is_global, next, starts_keyword};
+use ir_parts::{Ending, ItemFault, is_global, next, starts_keyword, starts_metadata};
 use sqlite_items::Items;
 use std::alloc::{AllocError, Global};
 
@@ -73,10 +72,7 @@ fn free_item(alloc: Global, tokens: &Tokens<'_>, from: usize) -> Result<(Ended, 
 fn is_barred(tokens: &Tokens<'_>, at: usize, ending: ItemEnding) -> bool
     ensures { result ≡ begins (barred_behind ending) (left_from tokens.now at) }
 {
-    match next(tokens, at) {
-        Some((kind, _)) => ends_in_comma(ending) && kind == TokenKind::Metadata,
-        None => false,
-    }
+    ends_in_comma(ending) && starts_metadata(tokens, at)
 }
 
 /// Whether an item ends in a comma, behind which an empty run of words stands.
@@ -231,16 +227,6 @@ fn starts_global(tokens: &Tokens<'_>, from: usize) -> bool
 {
     match next(tokens, from) {
         Some((kind, text)) => is_global(kind, text),
-        None => false,
-    }
-}
-
-/// Whether metadata stands at a place.
-fn starts_metadata(tokens: &Tokens<'_>, from: usize) -> bool
-    ensures { result ≡ begins is_metadata (left_from tokens.now from) }
-{
-    match next(tokens, from) {
-        Some((kind, _)) => kind == TokenKind::Metadata,
         None => false,
     }
 }
