@@ -1,6 +1,6 @@
 -- The names that stand in the text of a function, in text order. What is spelled with them is seen without ids: each
 -- id in it is 0, and the mentions say which name stands there.
-use Rattle.std.specs.Prelude.{◌≡◌, ℕ, List, [], ◌∷◌, ◌++◌, Option, Some, None}
+use Rattle.std.specs.Prelude.{◌≡◌, ℕ, List, [], ◌∷◌, ◌++◌, Option, Some}
 use Rattle.ir_text.specs.Tokens.{Lexeme}
 use Rattle.ir_text.specs.Language.{Language, ◌·◌, one}
 use Rattle.ir_text.specs.Written.{Name, IsLocal, IsLabel, IsGlobal}
