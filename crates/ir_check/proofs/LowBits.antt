@@ -1,10 +1,9 @@
 -- A number's residue by the bits that hold it, and numbers told apart by their lowest 128 bits.
-use Rattle.std.proofs.Common.{◌≡◌, ℕ, suc, ◌+◌, ◌-◌, ◌*◌, ◌/◌, ◌%◌, ◌^◌, ◌<◌, ◌≤◌, ◌==◌, Bool, true, false, min, ℤ, pos, negsuc, of_z, to_z, ltb, refl, ap, sym, ◌∙◌, arith}
-use Rattle.std.proofs.Math.Nat.{div-add-mod, mod-eq_of_lt}
-use Rattle.std.proofs.Math.Pow.{pow_mono}
-use Rattle.std.proofs.lemmas.Nat.{pow_pos, mod_below, one_shl}
+use Rattle.std.proofs.Common.{◌≡◌, ℕ, ◌*◌, ◌%◌, ◌^◌, ◌<◌, ◌≤◌, ◌==◌, Bool, true, false, min, ℤ, pos, negsuc, of_z, to_z, ltb, refl, ap, sym, ◌∙◌, arith}
+use Rattle.std.proofs.Math.Nat.{mod-eq_of_lt}
+use Rattle.std.proofs.lemmas.Nat.{one_shl}
 use Rattle.std.proofs.lemmas.Bool.{eqb-true, eqb-false, ltb-true, ltb-false}
-use Rattle.std.proofs.lemmas.Int.{ints, to_z-of_z}
+use Rattle.std.proofs.lemmas.Int.{to_z-of_z}
 use Rattle.scev_base.specs.Residue.{residue, reading}
 use Rattle.scev_base.proofs.BitLemmas.{residue_of_bits, wide}
 use mir.Syntax.{w128}
@@ -14,7 +13,7 @@ bits_below : (n : ℤ) → SFits w128 n → of_z w128 n < 2 ^ 128
 bits_below (pos k) fits = let small : k < 2 ^ 127 = fits.sfits in omega arith
 bits_below (negsuc k) fits = omega arith
 
--- All of them are its residue modulo 2^128.
+-- All the bits of a number of 128 bits are its residue modulo 2^128.
 pub residue_of_all_bits : (n : ℤ) → SFits w128 n → of_z w128 n ≡ residue 128 n
 residue_of_all_bits n fits =
     sym (mod-eq_of_lt (bits_below n fits)) ∙ residue_of_bits n 128 (omega arith) fits

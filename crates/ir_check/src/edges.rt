@@ -17,22 +17,11 @@ use scev_base::BlockId;
 pub(crate) fn entry_target(f: &Function) -> Option<Place>
     ensures { result ≡ slice_get (blocks.entry_targets f.now) 0 }
 {
-    let blocks = f.blocks.as_slice();
-    let entry = entry_of(blocks);
-    if any_leads_to(blocks, entry) {
+    let entry = f.entry();
+    if any_leads_to(f.blocks.as_slice(), entry) {
         return Some(Place::BlockAt(entry));
     }
     None
-}
-
-/// The number of the first block.
-pub(crate) fn entry_of(blocks: &[Block]) -> BlockId
-    ensures { result.0 ≡ shapes.entry blocks.now }
-{
-    match blocks.first() {
-        Some(block) => block.id,
-        None => BlockId(0),
-    }
 }
 
 /// Whether an instruction of some blocks leads to a block.

@@ -11,7 +11,7 @@ ghost use Rattle.ir_check.specs.Function.{later_rules, is_later};
 
 use crate::callees::Callees;
 use crate::defined::{Names, definitions};
-use crate::edges::{entry_of, entry_target, late_phi};
+use crate::edges::{entry_target, late_phi};
 use crate::entries::bad_entries;
 use crate::ill::Ill;
 use crate::instrs::first_breaking;
@@ -120,7 +120,7 @@ fn bad_width(
     ensures { IfOk result (λ found. found ≡ slice_get (bad_widths f.now) 0) }
 {
     if !is_wide(&f.ret) {
-        return Ok(Some(Place::BlockAt(entry_of(f.blocks.as_slice()))));
+        return Ok(Some(Place::BlockAt(f.entry())));
     }
     match bad_param(f.params.as_slice()) {
         Some(place) => Ok(Some(place)),

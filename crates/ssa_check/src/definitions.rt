@@ -5,7 +5,6 @@ ghost use Rattle.scev_base.specs.declared.ids.BlockId.{BlockId};
 ghost use Rattle.ir_model.specs.declared.function.Instr.{Instr};
 ghost use Rattle.ir_model.specs.Defined.{is_value};
 ghost use Rattle.ir_model.specs.Places.{in_block, given_at, is_param};
-ghost use Rattle.ir_model.specs.Shapes.{entry};
 ghost use Rattle.ir_model.specs.WellMade.{HasIds};
 ghost use Rattle.ssa_check.specs.declared.definitions.Definition.TheVariants.{Nowhere, Parameter};
 ghost use Rattle.ssa_check.specs.Tables.{at_place, definition_of, AreWithin};
@@ -66,14 +65,11 @@ impl<'a> Definitions<'a> {
         }
     }
 
-    /// The number of the function's first block, 0 where it has none.
-    pub(crate) fn entry(&self) -> BlockId
-        ensures { result.0 ≡ entry self.now.blocks }
+    /// The function itself.
+    pub(crate) fn function(&self) -> &'a Function
+        ensures { result.now ≡ self.now }
     {
-        match self.f.blocks.get(0) {
-            Some(block) => block.id,
-            None => BlockId(0),
-        }
+        self.f
     }
 }
 
