@@ -1,11 +1,13 @@
 -- What a call answers, status by status.
 use Rattle.std.specs.Prelude.{◌≡◌, ℕ, ◌<◌, ◌≤◌, List, [], length, Option, Some, IfSome}
-use Rattle.ir_grammar.specs.Spelled.{IsNotInGrammar, IsUnsupported}
+use Rattle.ir_model.specs.declared.item.Module.{Module}
+use Rattle.ir_rules.specs.Accepted.{IsFault}
+use Rattle.ir_grammar.specs.Spelled.{Spells, IsNotInGrammar, IsUnsupported}
 use Rattle.scev_outside.specs.Bytes.{Appended, AppendedFront}
 use Rattle.scev_outside.specs.Faults.{Rose}
 use Rattle.scev_tool.specs.declared.mode.Mode.{Mode}
 use Rattle.scev_tool.specs.declared.status.Status.{Status}
-use Rattle.scev_tool.specs.declared.status.Status.TheVariants.{Done, Usage, ReadFault, TooLong, NotInGrammar, Unsupported, WriteFault, OutOfMemory}
+use Rattle.scev_tool.specs.declared.status.Status.TheVariants.{Done, Usage, ReadFault, TooLong, NotInGrammar, Unsupported, Ill, WriteFault, OutOfMemory}
 use Rattle.scev_tool.specs.Mode.{AskFor, IsTextOf}
 
 -- What is seen of a call: its words, what the source had left and what the output had taken, before and after, and the
@@ -49,6 +51,8 @@ IsAnswer seen ReadFault = Asked seen (λ mode. Rose seen.reads_old seen.reads_ne
 IsAnswer seen TooLong = Asked seen (λ mode. IfSome seen.left_old (λ bytes. input_limit < length bytes))
 IsAnswer seen (NotInGrammar at) = Asked seen (λ mode. OfInput seen (λ bytes. IsNotInGrammar bytes at))
 IsAnswer seen (Unsupported word at) = Asked seen (λ mode. OfInput seen (λ bytes. IsUnsupported bytes word at))
+IsAnswer seen (Ill rule function place) = Asked seen (λ mode. OfInput seen (λ bytes.
+    (m : Module) × Spells bytes m × IsFault m rule function.0 place))
 IsAnswer seen Done = Asked seen (λ mode. OfInput seen (Writes seen mode))
 IsAnswer seen WriteFault = Asked seen (λ mode.
     Rose seen.writes_old seen.writes_new × OfInput seen (WritesPrefix seen mode))

@@ -9,6 +9,7 @@ use Rattle.ir_model.specs.declared.function.Function.{Function}
 use Rattle.ir_model.specs.declared.item.Item.{Item}
 use Rattle.ir_model.specs.declared.item.Item.TheVariants.{Define}
 use Rattle.ir_model.specs.declared.item.Module.{Module}
+use Rattle.ir_rules.specs.Accepted.{IsAcceptedModule}
 use Rattle.ir_grammar.specs.Spelled.{Spells}
 use Rattle.ir_grammar.specs.Printing.{Shown, shown_in, name_text, block_text}
 use Rattle.ir_model.specs.Shapes.{block_of}
@@ -80,9 +81,10 @@ RecurrencesAreTrue f = (headers : List BlockId) (b p first step k : ℕ) → IsT
     → IsRecurrence f b p first step
     → IsTrueOf f (map (λ header. one_block header.0) headers) p (affine 32 k first step)
 
--- The bytes spell a module, the text is its report, and what the report shows is true of each of its functions.
+-- The bytes spell a module that is accepted, the text is its report, and what the report shows is true of each of its functions.
 pub record IsReportOf (bytes text : List ℕ) : Type 0 where
   pub m : Module
   pub spelled : Spells bytes m
+  pub accepted : IsAcceptedModule m
   pub text_is : IsReport m text
   pub holds : (f : Function) → Contains m.items (Define f) → RecurrencesAreTrue f

@@ -1,10 +1,13 @@
 //! What a mode answers.
 
-ghost use Rattle.std.specs.Prelude.{◌≡◌, ◌≤◌, ◌<◌, ◌^◌, List, ℕ, length, IfOk, All};
+ghost use Rattle.std.specs.Prelude.{◌≡◌, ◌⊎◌, ◌≤◌, ◌<◌, ◌^◌, List, [], ℕ, length, IfOk, All};
 ghost use Rattle.scev_outside.specs.Bytes.{Gave};
 ghost use Rattle.ir_grammar.specs.Spelled.{Spells};
 ghost use Rattle.ir_model.specs.WellMade.{HaveIds};
+ghost use Rattle.ir_rules.specs.Accepted.{IsAcceptedModule};
 ghost use Rattle.scev_tool.specs.Answer.{IsAnswer, input_limit};
+ghost use Rattle.ir_accept.specs.Line.{fault_text};
+ghost use Rattle.scev_tool.specs.Message.{IsOwnLine};
 ghost use Rattle.scev_tool.specs.Mode.{AskFor, IsTextOf};
 ghost use Rattle.scev_tool.specs.Status.{LeavesOutput};
 
@@ -12,6 +15,7 @@ use crate::mode::Mode;
 use crate::report::report_module;
 use crate::status::Status;
 use crate::word::Word;
+use ir_accept::{Fault, fault_line, first_fault};
 use ir_model::Module;
 use ir_printer::print_module;
 use ir_reader::{ReadFault, read_module};
@@ -21,15 +25,22 @@ use std::alloc::{AllocError, Global};
 /// The greatest length of an input, in bytes.
 const INPUT_LIMIT: usize = 8_388_608;
 
+/// How a call ended, and the line of a rule that is broken. Other statuses have no line of their own.
+#[derive(Drop)]
+pub(crate) struct Answered {
+    pub status: Status,
+    pub line: Vec<u8>,
+}
+
 /// Reads the source to its end, and writes the mode's text for the module that it spells. The text is built
 /// whole before its first byte is written. The words of the call ask for the mode.
-pub fn answer<S: Source, K: Sink>(
+pub(crate) fn answer<S: Source, K: Sink>(
     alloc: Global,
     words: &[Word],
     mode: Mode,
     source: &mut S,
     out: &mut K,
-) -> Status
+) -> Answered
     requires { AskFor mode words.now }
     ensures answer { IsAnswer (record {
       words = words.now;
@@ -41,31 +52,75 @@ pub fn answer<S: Source, K: Sink>(
       reads_new = S.faults source.new;
       writes_old = K.faults out.old;
       writes_new = K.faults out.new;
-    }) result }
-    ensures output { LeavesOutput result → out.new ≡ out.old }
+    }) result.status }
+    ensures line { IsOwnLine (S.left source.old) result.status result.line.items }
+    ensures output { LeavesOutput result.status → out.new ≡ out.old }
     ensures stands { (read : List ℕ) × Gave (S.left source.old) read (S.left source.new) }
     ensures source_count { S.faults source.old ≤ S.faults source.new }
     ensures output_count { K.faults out.old ≤ K.faults out.new }
 {
     let bytes = match read_all(alloc, source, INPUT_LIMIT) {
         Ok(bytes) => bytes,
-        Err(ReadError::Failed) => return Status::ReadFault,
-        Err(ReadError::TooLong) => return Status::TooLong,
-        Err(ReadError::OutOfMemory) => return Status::OutOfMemory,
+        Err(ReadError::Failed) => return plain(alloc, Status::ReadFault),
+        Err(ReadError::TooLong) => return plain(alloc, Status::TooLong),
+        Err(ReadError::OutOfMemory) => return plain(alloc, Status::OutOfMemory),
     };
     let module = match read_module(alloc, &bytes) {
         Ok(module) => module,
-        Err(ReadFault::NotInGrammar { at }) => return Status::NotInGrammar { at },
-        Err(ReadFault::Unsupported { word, at }) => return Status::Unsupported { word, at },
-        Err(ReadFault::OutOfMemory) => return Status::OutOfMemory,
+        Err(ReadFault::NotInGrammar { at }) => return plain(alloc, Status::NotInGrammar { at }),
+        Err(ReadFault::Unsupported { word, at }) => {
+            return plain(alloc, Status::Unsupported { word, at });
+        }
+        Err(ReadFault::OutOfMemory) => return plain(alloc, Status::OutOfMemory),
     };
+    match first_fault(alloc, &module) {
+        Ok(None) => {}
+        Ok(Some(fault)) => return refused(alloc, &module, fault),
+        Err(_) => return plain(alloc, Status::OutOfMemory),
+    }
     are_bytes(&bytes);
     let Ok(text) = text_of(alloc, mode, &module) else {
-        return Status::OutOfMemory;
+        return plain(alloc, Status::OutOfMemory);
     };
     match write_all(out, &text) {
-        Ok(()) => Status::Done,
-        Err(_) => Status::WriteFault,
+        Ok(()) => plain(alloc, Status::Done),
+        Err(_) => plain(alloc, Status::WriteFault),
+    }
+}
+
+/// A status without a line of its own.
+pub(crate) fn plain(alloc: Global, status: Status) -> Answered
+    ensures status { result.status ≡ status }
+    ensures line { result.line.items ≡ [] }
+{
+    Answered {
+        status,
+        line: Vec::new(alloc),
+    }
+}
+
+/// The status of a rule that is broken, with its line, unless there is no memory for it.
+fn refused(alloc: Global, m: &Module, fault: Fault) -> Answered
+    requires { HaveIds m.now }
+    ensures { ((result.status ≡ Status.Ill fault.rule fault.function fault.place)
+        × (result.line.items ≡ fault_text m.now fault.rule fault.function.0 fault.place))
+        ⊎ (result.status ≡ Status.OutOfMemory) }
+{
+    let Fault {
+        rule,
+        function,
+        place,
+    } = fault;
+    match fault_line(alloc, m, fault) {
+        Ok(line) => Answered {
+            status: Status::Ill {
+                rule,
+                function,
+                place,
+            },
+            line,
+        },
+        Err(_) => plain(alloc, Status::OutOfMemory),
     }
 }
 
@@ -78,7 +133,7 @@ fn are_bytes(bytes: &[u8])
 fn text_of(alloc: Global, mode: Mode, m: &Module) -> Result<Vec<u8>, AllocError>
     requires { HaveIds m.now }
     ensures { IfOk result (λ text. (bytes : List ℕ) → All (λ b. b < 2 ^ 8) bytes → length bytes ≤ input_limit →
-        Spells bytes m.now → IsTextOf mode bytes text.items) }
+        Spells bytes m.now → IsAcceptedModule m.now → IsTextOf mode bytes text.items) }
 {
     match mode {
         Mode::Print => print_module(alloc, m),

@@ -4,7 +4,7 @@ ghost use Rattle.std.specs.Prelude.{◌≡◌, ◌≤◌, ◌++◌, [], codes, d
 ghost use Rattle.ir_grammar.specs.Spelled.{left_out};
 ghost use Rattle.scev_outside.specs.Bytes.{Appended, AppendedFront};
 ghost use Rattle.scev_outside.specs.Faults.{Rose};
-ghost use Rattle.scev_tool.specs.Message.{message};
+ghost use Rattle.scev_tool.specs.Message.{message, line_of};
 
 use crate::status::Status;
 use ir_left_out::left_out_text;
@@ -51,7 +51,7 @@ fn write_unsupported<E: Sink>(err: &mut E, word: u16, at: usize) -> Result<(), F
 
 /// Appends the line of a status, and a line feed; nothing for those that have no line. `Failed` comes only
 /// where the sink's count of faults rose; a front of the line is then appended.
-pub fn write_message<E: Sink>(err: &mut E, status: Status) -> Result<(), Failed>
+fn write_message<E: Sink>(err: &mut E, status: Status) -> Result<(), Failed>
     ensures whole { OnOk result (Appended (E.taken err.old) (message status) (E.taken err.new)) }
     ensures front { OnErr result (AppendedFront (E.taken err.old) (message status) (E.taken err.new)) }
     ensures failed { OnErr result (Rose (E.faults err.old) (E.faults err.new)) }
@@ -66,5 +66,19 @@ pub fn write_message<E: Sink>(err: &mut E, status: Status) -> Result<(), Failed>
         Status::WriteFault => write_all(err, b"scev: write fault\n"),
         Status::OutOfMemory => write_all(err, b"scev: out of memory\n"),
         _ => write_all(err, b""),
+    }
+}
+
+/// Appends the line of a status: that of a broken rule is given, the others are the same for every module. `Failed` comes
+/// only where the sink's count of faults rose; a front of the line is then appended.
+pub fn write_line<E: Sink>(err: &mut E, status: Status, own: &[u8]) -> Result<(), Failed>
+    ensures whole { OnOk result (Appended (E.taken err.old) (line_of status own.now) (E.taken err.new)) }
+    ensures front { OnErr result (AppendedFront (E.taken err.old) (line_of status own.now) (E.taken err.new)) }
+    ensures failed { OnErr result (Rose (E.faults err.old) (E.faults err.new)) }
+    ensures count { E.faults err.old ≤ E.faults err.new }
+{
+    match status {
+        Status::Ill { .. } => write_all(err, own),
+        _ => write_message(err, status),
     }
 }

@@ -2,17 +2,20 @@
 
 ghost use Rattle.std.specs.Prelude.{◌≡◌, ◌≤◌, ◌<◌, ◌⊎◌, ℕ, List, length, Some};
 ghost use Rattle.ir_model.specs.declared.item.Module.{Module};
+ghost use Rattle.ir_model.specs.declared.rule.Rule.{Rule};
+ghost use Rattle.ir_model.specs.declared.rule.Place.{Place};
+ghost use Rattle.ir_rules.specs.Accepted.{IsAcceptedModule, IsFault};
 ghost use Rattle.ir_grammar.specs.Spelled.{Spells, SpellsNone, IsNotInGrammar, IsUnsupported};
 ghost use Rattle.scev_outside.specs.Bytes.{Gave};
 ghost use Rattle.scev_outside.specs.Faults.{Rose};
-ghost use Rattle.scev_tool.specs.Message.{message, AddsUnlessFaulty};
+ghost use Rattle.scev_tool.specs.Message.{IsLine, AddsUnlessFaulty};
 ghost use Rattle.scev_tool.specs.Answer.{IsAnswer, input_limit};
 ghost use Rattle.scev_tool.specs.Mode.{AskFor};
 ghost use Rattle.scev_tool.specs.declared.mode.Mode.{Mode};
 ghost use Rattle.scev_tool.specs.Status.{LeavesOutput, Refuses};
 
-use crate::answer::answer;
-use crate::message::write_message;
+use crate::answer::{answer, plain};
+use crate::message::write_line;
 use crate::mode::mode_of;
 use crate::status::Status;
 use crate::word::Word;
@@ -52,12 +55,18 @@ pub fn run<S: Source, K: Sink, E: Sink>(
     ensures output { LeavesOutput result → out.new ≡ out.old }
     ensures stands { (read : List ℕ) × Gave (S.left source.old) read (S.left source.new) }
 
-    // A module within the limit is answered, unless memory runs out or an object's count of faults rises.
+    // A module within the limit that breaks no rule is answered, unless memory runs out or an object's count of faults
+    // rises; one that breaks a rule is refused at the first one, with its first place.
     ensures complete { (mode : Mode) (bytes : List ℕ) (m : Module) → AskFor mode words.now →
-        S.left source.old ≡ Some bytes → length bytes ≤ input_limit → Spells bytes m →
+        S.left source.old ≡ Some bytes → length bytes ≤ input_limit → Spells bytes m → IsAcceptedModule m →
         (Rose (S.faults source.old) (S.faults source.new) → ⊥) →
         (Rose (K.faults out.old) (K.faults out.new) → ⊥) →
         (result ≡ Status.Done) ⊎ (result ≡ Status.OutOfMemory) }
+
+    ensures rules { (mode : Mode) (bytes : List ℕ) (m : Module) (rule : Rule) (number : ℕ) (place : Place) →
+        AskFor mode words.now → S.left source.old ≡ Some bytes → length bytes ≤ input_limit → Spells bytes m →
+        IsFault m rule number place → (Rose (S.faults source.old) (S.faults source.new) → ⊥) →
+        (result ≡ Status.Ill rule (record { 0 = number }) place) ⊎ (result ≡ Status.OutOfMemory) }
 
     // What spells none within the limit is refused, at its place and under its name, on the same conditions; and what is
     // longer.
@@ -77,16 +86,16 @@ pub fn run<S: Source, K: Sink, E: Sink>(
         (result ≡ Status.TooLong) ⊎ (result ≡ Status.OutOfMemory) }
 
     // The status's line on `err`, and the counts of faults, which never fall.
-    ensures line { AddsUnlessFaulty (E.taken err.old) (message result) (E.taken err.new)
-        (E.faults err.old) (E.faults err.new) }
+    ensures line { (text : List ℕ) × IsLine (S.left source.old) result text
+        × AddsUnlessFaulty (E.taken err.old) text (E.taken err.new) (E.faults err.old) (E.faults err.new) }
     ensures reads { S.faults source.old ≤ S.faults source.new }
     ensures writes { K.faults out.old ≤ K.faults out.new }
     ensures messages { E.faults err.old ≤ E.faults err.new }
 {
-    let status = match mode_of(words) {
+    let answered = match mode_of(words) {
         Some(mode) => answer(alloc, words, mode, source, out),
-        None => Status::Usage,
+        None => plain(alloc, Status::Usage),
     };
-    let _ = write_message(err, status);
-    status
+    let _ = write_line(err, answered.status, &answered.line);
+    answered.status
 }

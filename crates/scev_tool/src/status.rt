@@ -5,7 +5,7 @@ ghost use Rattle.std.specs.Prelude.{◌≡◌};
 use ir_model::{Place, Rule};
 use scev_base::FuncId;
 
-/// How a call of the tool ended. So far no call answers `Ill`, `NoFunction` or `BadArgs`.
+/// How a call of the tool ended. So far no call answers `NoFunction` or `BadArgs`.
 #[derive(Clone, Copy, Debug, PartialEq, Eq)]
 pub enum Status {
     /// The whole text was written.
@@ -25,7 +25,8 @@ pub enum Status {
         word: u16,
         at: usize,
     },
-    /// The module breaks a rule of well-formedness.
+    /// The module breaks a rule of well-formedness: the first one that is broken, the function with a body, by its
+    /// number from 0 (0 for a rule on what stands outside functions), and the first place in text order.
     Ill {
         rule: Rule,
         function: FuncId,

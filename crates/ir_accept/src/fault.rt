@@ -1,0 +1,131 @@
+//! The first rule of well-formedness that a module breaks.
+
+ghost use Rattle.std.specs.Prelude.{◌≡◌, ◌≢◌, [], ◌∷◌, Ok, None, IfOk, IfSome, unwrap_or};
+ghost use Rattle.std.specs.Option.{option_copied, option_map};
+ghost use Rattle.ir_model.specs.WellMade.{HasIds, HaveIds, AreWellMade};
+ghost use Rattle.ir_model.specs.declared.rule.Rule.{Rule as AnyRule};
+ghost use Rattle.ir_model.specs.declared.rule.Place.{Place as AnyPlace};
+ghost use Rattle.ir_rules.specs.Rules.{first_broken};
+ghost use Rattle.ir_rules.specs.Uses.{Use, UsesAreDefined, IsFirstBroken};
+ghost use Rattle.ir_rules.specs.Accepted as accepted;
+ghost use Rattle.ir_rules.specs.Accepted.{IsAccepted, IsBrokenAt, IsAcceptedModule, IsFault};
+
+use flow_graph::Flow;
+use ir_check::{Callees, Ill, check_function, check_module};
+use ir_model::{Function, Item, Module, Place, Rule};
+use scev_base::FuncId;
+use ssa_check::{SsaFault, check_uses};
+use std::alloc::{AllocError, Global};
+
+/// A rule that is broken, the function with a body, by its number from 0 (0 for a rule on what stands outside
+/// functions), and the place.
+#[derive(Clone, Copy, Debug, PartialEq, Eq)]
+pub struct Fault {
+    pub rule: Rule,
+    pub function: FuncId,
+    pub place: Place,
+}
+
+/// The first rule that a module breaks: on what stands outside functions, or else in the first function that isn't
+/// accepted. None comes exactly where the module breaks none.
+///
+/// The error comes only where there is no memory. The time is that of `check_module`, and of `check_function`, `Flow::new`
+/// and `check_uses` for each function.
+pub fn first_fault(alloc: Global, m: &Module) -> Result<Option<Fault>, AllocError>
+    requires ids { HaveIds m.now }
+    requires well_made { AreWellMade m.now }
+    ensures accepted { result ≡ Ok None → IsAcceptedModule m.now }
+    ensures refused { IfOk result (λ found. IfSome found
+        (λ fault. IsFault m.now fault.rule fault.function.0 fault.place)) }
+{
+    match check_module(alloc, m) {
+        Ok(()) => first_of_functions(alloc, m),
+        Err(Ill::Broken { rule, place }) => Ok(Some(Fault {
+            rule,
+            function: FuncId(0),
+            place,
+        })),
+        Err(Ill::OutOfMemory) => Err(AllocError),
+    }
+}
+
+/// The first rule that a function of a module breaks, in the first one that isn't accepted.
+fn first_of_functions(alloc: Global, m: &Module) -> Result<Option<Fault>, AllocError>
+    requires ids { HaveIds m.now }
+    requires well_made { AreWellMade m.now }
+    requires items { accepted.first_item_broken m.now ≡ None }
+    ensures accepted { result ≡ Ok None → IsAcceptedModule m.now }
+    ensures refused { IfOk result (λ found. IfSome found
+        (λ fault. IsFault m.now fault.rule fault.function.0 fault.place)) }
+{
+    let signatures = m.signatures(alloc)?;
+    let callees = Callees::of(alloc, &signatures)?;
+    let mut number = 0;
+    for item in m.items.as_slice() {
+        match body_of(item) {
+            Some(f) => match function_fault(alloc, &callees, f)? {
+                Some((rule, place)) => {
+                    return Ok(Some(Fault {
+                        rule,
+                        function: FuncId(number),
+                        place,
+                    }));
+                }
+                None => number += 1,
+            },
+            None => {}
+        }
+    }
+    Ok(None)
+}
+
+/// The function that an item is, where it has a body.
+pub(crate) fn body_of(item: &Item) -> Option<&Function>
+    ensures { accepted.body_of item.now
+        ≡ unwrap_or (option_map (λ f. f ∷ []) (option_copied result)) [] }
+{
+    match item {
+        Item::Define(f) => Some(f),
+        Item::PassedOn(_) | Item::Global(_) | Item::Declare(_) => None,
+    }
+}
+
+/// The first rule that a function breaks: one of its shape, or else the one on uses.
+fn function_fault(
+    alloc: Global,
+    callees: &Callees<'_>,
+    f: &Function,
+) -> Result<Option<(Rule, Place)>, AllocError>
+    requires ids { HasIds f.now }
+    requires some_block { f.now.blocks ≢ [] }
+    ensures accepted { result ≡ Ok None → IsAccepted callees.now f.now }
+    ensures refused { IfOk result (λ found. IfSome found (λ fault. IsBrokenAt callees.now f.now fault.0 fault.1)) }
+{
+    match check_function(alloc, callees, f) {
+        Ok(()) => use_fault(alloc, callees, f),
+        Err(Ill::Broken { rule, place }) => Ok(Some((rule, place))),
+        Err(Ill::OutOfMemory) => Err(AllocError),
+    }
+}
+
+/// Where a function of the right shape breaks the rule on uses.
+fn use_fault(
+    alloc: Global,
+    callees: &Callees<'_>,
+    f: &Function,
+) -> Result<Option<(Rule, Place)>, AllocError>
+    requires ids { HasIds f.now }
+    requires some_block { f.now.blocks ≢ [] }
+    requires shape { first_broken callees.now f.now ≡ None }
+    ensures accepted { result ≡ Ok None → IsAccepted callees.now f.now }
+    ensures refused { IfOk result (λ found. IfSome found (λ fault. IsBrokenAt callees.now f.now fault.0 fault.1)) }
+{
+    let flow = Flow::new(alloc, f)?;
+    match check_uses(alloc, f, &flow) {
+        Ok(()) => Ok(None),
+        Err(SsaFault::UseBeforeDef { value, block }) => {
+            Ok(Some((Rule::UseBeforeDef, Place::UseIn(value, block))))
+        }
+        Err(SsaFault::OutOfMemory) => Err(AllocError),
+    }
+}
