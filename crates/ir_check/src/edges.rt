@@ -80,7 +80,7 @@ fn late_in(b: BlockId, instrs: &[Instr]) -> Option<Place>
 {
     let mut other = false;
     for instr in instrs {
-        if !is_phi(&instr.op) {
+        if !instr.op.is_phi() {
             other = true;
         } else if other {
             return Some(place_of(b, instr));
@@ -89,9 +89,3 @@ fn late_in(b: BlockId, instrs: &[Instr]) -> Option<Place>
     None
 }
 
-/// Whether an operation is a phi.
-fn is_phi(op: &Op) -> bool
-    ensures { result ≡ shapes.is_phi op.now }
-{
-    matches!(op, Op::Phi { .. })
-}
