@@ -20,4 +20,6 @@ mod refused;
 #[cfg(test)]
 mod report;
 #[cfg(test)]
+mod rules;
+#[cfg(test)]
 mod tokens;

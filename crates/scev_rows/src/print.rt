@@ -58,16 +58,15 @@ const PRINTED: [(&str, &str); 19] = [
         "define i32 @f(){a: %x = add nsw i32 007, -0 ret i32 %x}",
         "define i32 @f() {\na:\n  %x = add nsw i32 7, 0\n  ret i32 %x\n}\n",
     ),
-    // Names of every byte that a word may have, a value and a block of one name, and a value without a
-    // definition.
+    // Names of every byte that a word may have, and a value and a block of one name.
     (
-        "define i32 @$._-9(i32 %a-){a-:%_ = icmp sge i32 %z, %a- br i1 %_, label %a-, label %q}",
-        "define i32 @$._-9(i32 %a-) {\na-:\n  %_ = icmp sge i32 %z, %a-\n  br i1 %_, label %a-, label %q\n}\n",
+        "define i32 @$._-9(i32 %a-){a-:%_ = icmp sge i32 1, %a- br i1 %_, label %a--, label %q a--:br label %q q:ret i32%a-}",
+        "define i32 @$._-9(i32 %a-) {\na-:\n  %_ = icmp sge i32 1, %a-\n  br i1 %_, label %a--, label %q\na--:\n  br label %q\nq:\n  ret i32 %a-\n}\n",
     ),
-    // Two entries of a phi for one block, and a name that is defined twice.
+    // Two entries of a phi for one block, which has two edges.
     (
-        "define i32 @f(){a:%p=phi i32[1,%a],[%p,%a]%p=icmp eq i32 %p,%p br label %a}",
-        "define i32 @f() {\na:\n  %p = phi i32 [ 1, %a ], [ %p, %a ]\n  %p = icmp eq i32 %p, %p\n  br label %a\n}\n",
+        "define i32 @f(i1 %c){a:br i1%c,label%b,label%b b:%p=phi i32[1,%a],[1,%a]ret i32%p}",
+        "define i32 @f(i1 %c) {\na:\n  br i1 %c, label %b, label %b\nb:\n  %p = phi i32 [ 1, %a ], [ 1, %a ]\n  ret i32 %p\n}\n",
     ),
     // Nothing but gaps is a module without items.
     ("", ""),

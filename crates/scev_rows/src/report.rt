@@ -5,7 +5,7 @@ use scev_tool::Status;
 use std::test::Fail;
 
 /// What is read, and what is reported of it.
-const REPORTED: [(&str, &str); 25] = [
+const REPORTED: [(&str, &str); 16] = [
     // A start and a step by their signed readings.
     (
         "define i32 @f() {
@@ -83,81 +83,18 @@ b: %d = icmp ne i32 %j, 3 br i1 %d, label %l, label %e
 e: ret i32 %i}",
         "; scev report 1\n; function @f\n",
     ),
-    // A register that is defined twice: no phi of the function is a recurrence.
-    (
-        "define i32 @f(i32 %n){a: br label %l
-l: %i = phi i32 [ 0, %a ], [ %j, %l ] %i = phi i32 [ 0, %a ], [ %j, %l ] %j = add i32 %i, 1
-%c = icmp ult i32 %j, %n br i1 %c, label %l, label %e
-e: ret i32 %i}",
-        "; scev report 1\n; function @f\n; loop %l depth 1\n; phi %i = %i\n; phi %i = %i\n",
-    ),
-    // A register that an instruction defines again, behind the loop.
-    (
-        "define i32 @f(i32 %n){a: br label %l
-l: %i = phi i32 [ 0, %a ], [ %j, %l ] %j = add i32 %i, 1
-%c = icmp ult i32 %j, %n br i1 %c, label %l, label %e
-e: %j = add i32 %i, 2 ret i32 %i}",
-        "; scev report 1\n; function @f\n; loop %l depth 1\n; phi %i = %i\n",
-    ),
-    // A parameter that an instruction defines again.
-    (
-        "define i32 @f(i32 %n){a: br label %l
-l: %i = phi i32 [ 0, %a ], [ %j, %l ] %j = add i32 %i, 1
-%c = icmp ult i32 %j, 9 br i1 %c, label %l, label %e
-e: %n = add i32 %i, 2 ret i32 %i}",
-        "; scev report 1\n; function @f\n; loop %l depth 1\n; phi %i = %i\n",
-    ),
-    // A register that nothing defines.
-    (
-        "define i32 @f(i32 %n){a: br label %l
-l: %i = phi i32 [ 0, %a ], [ %j, %l ] %j = add i32 %i, 1
-%c = icmp ult i32 %j, %m br i1 %c, label %l, label %e
-e: ret i32 %i}",
-        "; scev report 1\n; function @f\n; loop %l depth 1\n; phi %i = %i\n",
-    ),
-    // A label that stands twice.
-    (
-        "define i32 @f(i32 %n){a: br label %l
-l: %i = phi i32 [ 0, %a ], [ %j, %l ] %j = add i32 %i, 1
-%c = icmp ult i32 %j, %n br i1 %c, label %l, label %e
-e: ret i32 %i
-e: ret i32 %j}",
-        "; scev report 1\n; function @f\n; loop %l depth 1\n; phi %i = %i\n",
-    ),
-    // A label that stands nowhere.
-    (
-        "define i32 @f(i32 %n){a: br label %l
-l: %i = phi i32 [ 0, %a ], [ %j, %l ] %j = add i32 %i, 1
-%c = icmp ult i32 %j, %n br i1 %c, label %l, label %e}",
-        "; scev report 1\n; function @f\n; loop %l depth 1\n; phi %i = %i\n",
-    ),
-    // A phi behind another instruction: no phi of the block is a recurrence.
-    (
-        "define i32 @f(i32 %n){a: br label %l
-l: %i = phi i32 [ 0, %a ], [ %j, %l ] %j = add i32 %i, 1 %k = phi i32 [ 0, %a ], [ 1, %l ]
-%c = icmp ult i32 %j, %n br i1 %c, label %l, label %e
-e: ret i32 %i}",
-        "; scev report 1\n; function @f\n; loop %l depth 1\n; phi %i = %i\n; phi %k = %k\n",
-    ),
     // A loop that control doesn't reach.
     (
         "define i32 @f(i32 %n){a: ret i32 %n
-l: %i = phi i32 [ 0, %a ], [ %j, %l ] %j = add i32 %i, 1 br label %l}",
+l: %i = phi i32 [ %j, %l ] %j = add i32 %i, 1 br label %l}",
         "; scev report 1\n; function @f\n",
     ),
-    // No entry from outside, and two entries from the block itself.
+    // Both targets of a branch are the block itself, so that its phi has two entries from there.
     (
         "define i32 @f(i32 %n){a: br label %l
-l: %i = phi i32 [ %j, %l ] %k = phi i32 [ 0, %a ], [ %m, %l ], [ %m, %l ]
-%j = add i32 %i, 1 %m = add i32 %k, 1 br label %l}",
-        "; scev report 1\n; function @f\n; loop %l depth 1\n; phi %i = %i\n; phi %k = %k\n",
-    ),
-    // Both targets of a branch are the block itself.
-    (
-        "define i32 @f(i32 %n){a: br label %l
-l: %i = phi i32 [ 0, %a ], [ %j, %l ] %j = add i32 %i, 1
+l: %i = phi i32 [ 0, %a ], [ %j, %l ], [ %j, %l ] %j = add i32 %i, 1
 %c = icmp ult i32 %j, %n br i1 %c, label %l, label %l}",
-        "; scev report 1\n; function @f\n; loop %l depth 1\n; phi %i = {0,+,1}<%l>\n",
+        "; scev report 1\n; function @f\n; loop %l depth 1\n; phi %i = %i\n",
     ),
     // What is added isn't the phi itself; and what comes back is no sum.
     (
@@ -170,11 +107,6 @@ l: %i = phi i32 [ 0, %a ], [ %j, %l ] %k = phi i32 [ 0, %a ], [ %i, %l ]
     (
         "define i32 @f(){a: br label %l l: br label %l}",
         "; scev report 1\n; function @f\n; loop %l depth 1\n",
-    ),
-    // The first block is a loop.
-    (
-        "define i32 @f(i32 %n){a: %c = icmp eq i32 %n, 0 br i1 %c, label %a, label %b b: ret i32 0}",
-        "; scev report 1\n; function @f\n; loop %a depth 1\n",
     ),
     // A module without functions.
     ("; nothing\n", "; scev report 1\n"),
@@ -199,6 +131,77 @@ e: ret i32 %i}",
     ),
 ];
 
+/// What breaks a rule, and has no report.
+const ILL: [(&str, &str); 9] = [
+    // A register that is defined twice.
+    (
+        "define i32 @f(i32 %n){a: br label %l
+l: %i = phi i32 [ 0, %a ], [ %j, %l ] %i = phi i32 [ 0, %a ], [ %j, %l ] %j = add i32 %i, 1
+%c = icmp ult i32 %j, %n br i1 %c, label %l, label %e
+e: ret i32 %i}",
+        "scev: rule DuplicateName in @f: %i\n",
+    ),
+    // A register that an instruction defines again, behind the loop.
+    (
+        "define i32 @f(i32 %n){a: br label %l
+l: %i = phi i32 [ 0, %a ], [ %j, %l ] %j = add i32 %i, 1
+%c = icmp ult i32 %j, %n br i1 %c, label %l, label %e
+e: %j = add i32 %i, 2 ret i32 %i}",
+        "scev: rule DuplicateName in @f: %j\n",
+    ),
+    // A parameter that an instruction defines again.
+    (
+        "define i32 @f(i32 %n){a: br label %l
+l: %i = phi i32 [ 0, %a ], [ %j, %l ] %j = add i32 %i, 1
+%c = icmp ult i32 %j, 9 br i1 %c, label %l, label %e
+e: %n = add i32 %i, 2 ret i32 %i}",
+        "scev: rule DuplicateName in @f: %n\n",
+    ),
+    // A register that nothing defines.
+    (
+        "define i32 @f(i32 %n){a: br label %l
+l: %i = phi i32 [ 0, %a ], [ %j, %l ] %j = add i32 %i, 1
+%c = icmp ult i32 %j, %m br i1 %c, label %l, label %e
+e: ret i32 %i}",
+        "scev: rule UndefinedName in @f: %m in %l\n",
+    ),
+    // A label that stands twice.
+    (
+        "define i32 @f(i32 %n){a: br label %l
+l: %i = phi i32 [ 0, %a ], [ %j, %l ] %j = add i32 %i, 1
+%c = icmp ult i32 %j, %n br i1 %c, label %l, label %e
+e: ret i32 %i
+e: ret i32 %j}",
+        "scev: rule DuplicateName in @f: %e\n",
+    ),
+    // A label that stands nowhere.
+    (
+        "define i32 @f(i32 %n){a: br label %l
+l: %i = phi i32 [ 0, %a ], [ %j, %l ] %j = add i32 %i, 1
+%c = icmp ult i32 %j, %n br i1 %c, label %l, label %e}",
+        "scev: rule UndefinedName in @f: %e\n",
+    ),
+    // A phi behind another instruction.
+    (
+        "define i32 @f(i32 %n){a: br label %l
+l: %i = phi i32 [ 0, %a ], [ %j, %l ] %j = add i32 %i, 1 %k = phi i32 [ 0, %a ], [ 1, %l ]
+%c = icmp ult i32 %j, %n br i1 %c, label %l, label %e
+e: ret i32 %i}",
+        "scev: rule PhiNotFirst in @f: %k\n",
+    ),
+    // No entry from outside.
+    (
+        "define i32 @f(i32 %n){a: br label %l
+l: %i = phi i32 [ %j, %l ] %j = add i32 %i, 1 br label %l}",
+        "scev: rule PhiEntries in @f: %i\n",
+    ),
+    // The first block is a loop.
+    (
+        "define i32 @f(i32 %n){a: %c = icmp eq i32 %n, 0 br i1 %c, label %a, label %b b: ret i32 0}",
+        "scev: rule EntryHasPredecessor in @f: %a\n",
+    ),
+];
+
 #[test]
 fn reported(rt: HostRuntime) -> Result<(), Fail> {
     for (input, text) in REPORTED {
@@ -206,6 +209,17 @@ fn reported(rt: HostRuntime) -> Result<(), Fail> {
         assert_eq!(rt; outcome.status, Status::Done);
         assert_eq!(rt; outcome.out.as_slice(), text.as_bytes());
         assert_eq!(rt; outcome.err.as_slice(), b"".as_slice());
+    }
+    Ok(())
+}
+
+#[test]
+fn what_breaks_a_rule_has_no_report(rt: HostRuntime) -> Result<(), Fail> {
+    for (input, line) in ILL {
+        let outcome = report(rt.alloc(), input.as_bytes())?;
+        assert_eq!(rt; outcome.status.code(), 3);
+        assert_eq!(rt; outcome.out.as_slice(), b"".as_slice());
+        assert_eq!(rt; outcome.err.as_slice(), line.as_bytes());
     }
     Ok(())
 }
