@@ -1,7 +1,13 @@
 -- Which status comes, by what is seen of a call.
-use Rattle.std.proofs.Common.{◌≡◌, ℕ, ◌<◌, ◌≤◌, List, [], length, Option, Some, None, ◌⊎◌, inl, inr, refl, sym, ap, ◌∙◌, arith}
+use Rattle.std.proofs.Common.{◌≡◌, ℕ, ◌<◌, ◌≤◌, List, [], length, Option, Some, None, ◌⊎◌, inl, inr, refl, sym, ap, subst, ◌∙◌, arith}
 use Rattle.std.proofs.Common.{IfSome}
+use Rattle.scev_base.specs.declared.ids.FuncId.{FuncId}
 use Rattle.ir_model.specs.declared.item.Module.{Module}
+use Rattle.ir_model.specs.declared.rule.Rule.{Rule}
+use Rattle.ir_model.specs.declared.rule.Place.{Place}
+use Rattle.ir_rules.specs.Accepted.{IsAcceptedModule, IsFault}
+use Rattle.ir_accept.proofs.OneFault.{one_fault, not_accepted}
+use Rattle.ir_reader.proofs.OneModule.{one_module}
 use Rattle.ir_grammar.specs.Spelled.{Spells, SpellsNone, IsNotInGrammar, IsUnsupported}
 use Rattle.ir_reader.proofs.OneRefusal.{one_place}
 use Rattle.ir_reader.proofs.OneName.{one_number_and_place, not_both}
@@ -14,10 +20,20 @@ use Rattle.scev_tool.specs.Status.{Refuses}
 use Rattle.scev_tool.specs.Mode.{AskFor, IsTextOf}
 use Rattle.scev_tool.specs.Answer.{Seen, OfInput, IsAnswer, input_limit}
 
--- Bytes with a text spell a module.
-spelled_by : (which : Mode) (bytes text : List ℕ) → IsTextOf which bytes text → SpellsNone bytes → ⊥
-spelled_by mode.Print bytes text h none = none h.m h.spelled
-spelled_by mode.Report bytes text h none = none h.m h.spelled
+-- Bytes with a text spell a module that is accepted.
+spelled_by : (which : Mode) (bytes text : List ℕ) → IsTextOf which bytes text
+    → (m : Module) × Spells bytes m × IsAcceptedModule m
+spelled_by mode.Print bytes text h = (h.m, h.spelled, h.accepted)
+spelled_by mode.Report bytes text h = (h.m, h.spelled, h.accepted)
+
+-- The module of the bytes isn't accepted and refused.
+not_both_of : (bytes : List ℕ) (m n : Module) (rule : Rule) (number : ℕ) (place : Place) → Spells bytes m
+    → Spells bytes n
+    → IsAcceptedModule m
+    → IsFault n rule number place
+    → ⊥
+not_both_of bytes m n rule number place first second accepted fault =
+    not_accepted n rule number place (subst IsAcceptedModule (one_module bytes m n first second) accepted) fault
 
 -- What holds of the input holds of what the source had left.
 pub of_input : (left_old left_new : Option (List ℕ)) (bytes : List ℕ) (Holds : List ℕ → Type 0)
@@ -46,39 +62,86 @@ module _ (seen : Seen) (bytes : List ℕ) (call : Call seen bytes) where
   left_out : (word at : ℕ) → IsAnswer seen (status.Unsupported word at) → IsUnsupported bytes word at
   left_out word at h = (held (λ bytes. IsUnsupported bytes word at) h.2).1
 
-  -- A module within the limit is answered, unless memory runs out or the output's count of faults rises.
-  pub complete : (s : Status) (m : Module) → IsAnswer seen s → Spells bytes m → length bytes ≤ input_limit
+  -- which rule is broken, of which function and at which place
+  ill : (rule : Rule) (function : FuncId) (place : Place) → IsAnswer seen (status.Ill rule function place)
+      → (m : Module) × Spells bytes m × IsFault m rule function.0 place
+  ill rule function place h =
+      (held (λ bytes. (m : Module) × Spells bytes m × IsFault m rule function.0 place) h.2).1
+
+  -- A module within the limit that breaks no rule is answered, unless memory runs out or the output's count of faults
+  -- rises.
+  pub complete : (s : Status) (m : Module) → IsAnswer seen s → Spells bytes m → IsAcceptedModule m
+      → length bytes ≤ input_limit
       → (Rose seen.writes_old seen.writes_new → ⊥)
       → (s ≡ status.Done) ⊎ (s ≡ status.OutOfMemory)
-  complete status.Done m h spelled short writes = inl refl
-  complete status.Usage m h spelled short writes = absurd (h call.which call.asked)
-  complete status.ReadFault m h spelled short writes = absurd (call.no_read_fault h.2)
-  complete status.TooLong m h spelled short writes =
+  complete status.Done m h spelled accepted short writes = inl refl
+  complete status.Usage m h spelled accepted short writes = absurd (h call.which call.asked)
+  complete status.ReadFault m h spelled accepted short writes = absurd (call.no_read_fault h.2)
+  complete status.TooLong m h spelled accepted short writes =
       let long : input_limit < length bytes = rw call.left at h.2 in absurd (omega arith)
-  complete (status.NotInGrammar at) m h spelled short writes = absurd ((refused at h).refusal.none m spelled)
-  complete (status.Unsupported word at) m h spelled short writes =
+  complete (status.NotInGrammar at) m h spelled accepted short writes = absurd ((refused at h).refusal.none m spelled)
+  complete (status.Unsupported word at) m h spelled accepted short writes =
       absurd ((left_out word at h).refusal.none m spelled)
-  complete (status.Ill rule function place) m h spelled short writes = absurd h
-  complete status.NoFunction m h spelled short writes = absurd h
-  complete status.BadArgs m h spelled short writes = absurd h
-  complete status.WriteFault m h spelled short writes = absurd (writes h.2.0)
-  complete status.OutOfMemory m h spelled short writes = inr refl
+  complete (status.Ill rule function place) m h spelled accepted short writes =
+      let found = ill rule function place h in
+      absurd (not_both_of bytes m found.0 rule function.0 place spelled found.1 accepted found.2)
+  complete status.NoFunction m h spelled accepted short writes = absurd h
+  complete status.BadArgs m h spelled accepted short writes = absurd h
+  complete status.WriteFault m h spelled accepted short writes = absurd (writes h.2.0)
+  complete status.OutOfMemory m h spelled accepted short writes = inr refl
+
+  -- One that breaks a rule is refused at the first one, with its first place.
+  pub rules : (s : Status) (m : Module) (rule : Rule) (number : ℕ) (place : Place) → IsAnswer seen s → Spells bytes m
+      → IsFault m rule number place
+      → length bytes ≤ input_limit
+      → (s ≡ status.Ill rule (record { 0 = number }) place) ⊎ (s ≡ status.OutOfMemory)
+  rules status.Done m rule number place h spelled fault short =
+      let text = (held _ h.2).1 in
+      let by = spelled_by h.0 bytes text.0 text.1 in
+      absurd (not_both_of bytes by.0 m rule number place by.1 spelled by.2 fault)
+  rules status.Usage m rule number place h spelled fault short = absurd (h call.which call.asked)
+  rules status.ReadFault m rule number place h spelled fault short = absurd (call.no_read_fault h.2)
+  rules status.TooLong m rule number place h spelled fault short =
+      let long : input_limit < length bytes = rw call.left at h.2 in absurd (omega arith)
+  rules (status.NotInGrammar at) m rule number place h spelled fault short =
+      absurd ((refused at h).refusal.none m spelled)
+  rules (status.Unsupported word at) m rule number place h spelled fault short =
+      absurd ((left_out word at h).refusal.none m spelled)
+  rules (status.Ill other function at) m rule number place h spelled fault short =
+      let found = ill other function at h in
+      let same = subst (λ (n : Module). IsFault n other function.0 at)
+          (one_module bytes found.0 m found.1 spelled) found.2 in
+      let one = one_fault m other rule function.0 number at place same fault in
+      inl (ap (λ (r : Rule). status.Ill r function at) one.0
+      ∙ ap (λ (k : ℕ). status.Ill rule (record { 0 = k }) at) one.1
+      ∙ ap (status.Ill rule (record { 0 = number })) one.2)
+  rules status.NoFunction m rule number place h spelled fault short = absurd h
+  rules status.BadArgs m rule number place h spelled fault short = absurd h
+  rules status.WriteFault m rule number place h spelled fault short =
+      let text = (held _ h.2.1).1 in
+      let by = spelled_by h.0 bytes text.0 text.1 in
+      absurd (not_both_of bytes by.0 m rule number place by.1 spelled by.2 fault)
+  rules status.OutOfMemory m rule number place h spelled fault short = inr refl
 
   -- What spells no module is refused:
   pub refuses : (s : Status) → IsAnswer seen s → SpellsNone bytes → length bytes ≤ input_limit
       → Refuses s ⊎ (s ≡ status.OutOfMemory)
-  refuses status.Done h none short = let text = (held _ h.2).1 in absurd (spelled_by h.0 bytes text.0 text.1 none)
+  refuses status.Done h none short =
+      let text = (held _ h.2).1 in
+      let by = spelled_by h.0 bytes text.0 text.1 in absurd (none by.0 by.1)
   refuses status.Usage h none short = absurd (h call.which call.asked)
   refuses status.ReadFault h none short = absurd (call.no_read_fault h.2)
   refuses status.TooLong h none short =
       let long : input_limit < length bytes = rw call.left at h.2 in absurd (omega arith)
   refuses (status.NotInGrammar at) h none short = inl tt
   refuses (status.Unsupported word at) h none short = inl tt
-  refuses (status.Ill rule function place) h none short = absurd h
+  refuses (status.Ill rule function place) h none short =
+      let found = ill rule function place h in absurd (none found.0 found.1)
   refuses status.NoFunction h none short = absurd h
   refuses status.BadArgs h none short = absurd h
   refuses status.WriteFault h none short =
-      let text = (held _ h.2.1).1 in absurd (spelled_by h.0 bytes text.0 text.1 none)
+      let text = (held _ h.2.1).1 in
+      let by = spelled_by h.0 bytes text.0 text.1 in absurd (none by.0 by.1)
   refuses status.OutOfMemory h none short = inr refl
 
   -- where it is refused without a name, at its place,
@@ -126,7 +189,9 @@ module _ (seen : Seen) (bytes : List ℕ) (call : Call seen bytes) where
       let input = held (λ bytes. IsNotInGrammar bytes at) h.2 in absurd (omega arith)
   limits (status.Unsupported word at) h long =
       let input = held (λ bytes. IsUnsupported bytes word at) h.2 in absurd (omega arith)
-  limits (status.Ill rule function place) h long = absurd h
+  limits (status.Ill rule function place) h long =
+      let input = held (λ bytes. (m : Module) × Spells bytes m × IsFault m rule function.0 place) h.2 in
+      absurd (omega arith)
   limits status.NoFunction h long = absurd h
   limits status.BadArgs h long = absurd h
   limits status.WriteFault h long = let input = held _ h.2.1 in absurd (omega arith)

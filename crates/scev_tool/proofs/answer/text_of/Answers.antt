@@ -11,12 +11,13 @@ pub returns-in-Report : goal.returns-in-Report
 returns-in-Report c =
     rw c.in-Report.is
     (weaker c.report_module.result _ _
-    (λ text is bytes small short spelled. is_report_of bytes c.args.m.now text.items spelled is)
+    (λ text is bytes small short spelled accepted. is_report_of bytes c.args.m.now text.items spelled accepted is)
     c.report_module.ensures)
 
 pub returns-in-Print : goal.returns-in-Print
 returns-in-Print c =
     rw c.in-Print.is
     (weaker c.print_module.result _ _
-    (λ text is bytes small short spelled. is_print_of bytes c.args.m.now text.items is small short spelled)
+    (λ text is bytes small short spelled accepted.
+    is_print_of bytes c.args.m.now text.items is small short spelled accepted)
     c.print_module.ensures)

@@ -1,20 +1,37 @@
 -- The status of a call is that of its mode, and what is seen of it is seen there.
-use Rattle.scev_tool.proofs.Answered.{complete, refuses, places, names, limits}
+use Rattle.scev_tool.proofs.Answered.{complete, rules, refuses, places, names, limits}
 use Rattle.scev_tool.proofs.running.run.Goals.{in-Some, in-None}
 use Rattle.scev_tool.proofs.running.run.Goals as goal
 
 pub returns-clause-complete : goal.returns-clause-complete
-returns-clause-complete g c = λ which bytes m asked left short spelled reads writes.
+returns-clause-complete g c = λ which bytes m asked left short spelled accepted reads writes.
     elim c.match-mode_of.branch [
       | in-Some w ↦
-          rw w.status-is
+          rw w.answered-is
           (complete _ bytes (record {
             which = which;
             asked = asked;
             left = left;
             no_read_fault = rw w.source-is at reads;
           }) _ m
-          w.answer-status.ensures.answer spelled short (rw w.out-is at writes))
+          w.answer-answered.ensures.answer spelled accepted short (rw w.out-is at writes))
+      | in-None w ↦
+          let no = rw w.in-None.is at c.mode_of.ensures.none in
+          let never : ⊥ = no which asked in absurd never
+    ]
+
+pub returns-clause-rules : goal.returns-clause-rules
+returns-clause-rules g c = λ which bytes m rule number place asked left short spelled fault reads.
+    elim c.match-mode_of.branch [
+      | in-Some w ↦
+          rw w.answered-is
+          (rules _ bytes (record {
+            which = which;
+            asked = asked;
+            left = left;
+            no_read_fault = rw w.source-is at reads;
+          }) _ m rule number place
+          w.answer-answered.ensures.answer spelled fault short)
       | in-None w ↦
           let no = rw w.in-None.is at c.mode_of.ensures.none in
           let never : ⊥ = no which asked in absurd never
@@ -24,14 +41,14 @@ pub returns-clause-refuses : goal.returns-clause-refuses
 returns-clause-refuses g c = λ which bytes asked left short none reads.
     elim c.match-mode_of.branch [
       | in-Some w ↦
-          rw w.status-is
+          rw w.answered-is
           (refuses _ bytes (record {
             which = which;
             asked = asked;
             left = left;
             no_read_fault = rw w.source-is at reads;
           }) _
-          w.answer-status.ensures.answer none short)
+          w.answer-answered.ensures.answer none short)
       | in-None w ↦
           let no = rw w.in-None.is at c.mode_of.ensures.none in
           let never : ⊥ = no which asked in absurd never
@@ -41,14 +58,14 @@ pub returns-clause-places : goal.returns-clause-places
 returns-clause-places g c = λ which bytes place asked left short none reads.
     elim c.match-mode_of.branch [
       | in-Some w ↦
-          rw w.status-is
+          rw w.answered-is
           (places _ bytes (record {
             which = which;
             asked = asked;
             left = left;
             no_read_fault = rw w.source-is at reads;
           }) _
-          place w.answer-status.ensures.answer none short)
+          place w.answer-answered.ensures.answer none short)
       | in-None w ↦
           let no = rw w.in-None.is at c.mode_of.ensures.none in
           let never : ⊥ = no which asked in absurd never
@@ -58,14 +75,14 @@ pub returns-clause-names : goal.returns-clause-names
 returns-clause-names g c = λ which bytes word place asked left short none reads.
     elim c.match-mode_of.branch [
       | in-Some w ↦
-          rw w.status-is
+          rw w.answered-is
           (names _ bytes (record {
             which = which;
             asked = asked;
             left = left;
             no_read_fault = rw w.source-is at reads;
           }) _
-          word place w.answer-status.ensures.answer none short)
+          word place w.answer-answered.ensures.answer none short)
       | in-None w ↦
           let no = rw w.in-None.is at c.mode_of.ensures.none in
           let never : ⊥ = no which asked in absurd never
@@ -75,14 +92,14 @@ pub returns-clause-limits : goal.returns-clause-limits
 returns-clause-limits g c = λ which bytes asked left long reads.
     elim c.match-mode_of.branch [
       | in-Some w ↦
-          rw w.status-is
+          rw w.answered-is
           (limits _ bytes (record {
             which = which;
             asked = asked;
             left = left;
             no_read_fault = rw w.source-is at reads;
           }) _
-          w.answer-status.ensures.answer long)
+          w.answer-answered.ensures.answer long)
       | in-None w ↦
           let no = rw w.in-None.is at c.mode_of.ensures.none in
           let never : ⊥ = no which asked in absurd never
