@@ -1,5 +1,6 @@
 -- What stands behind a call, at a place of the tokens.
 use Rattle.std.proofs.Common.{◌≡◌, ℕ, ◌-◌, ◌≤◌, zero, suc, Bool, if◌then◌else◌, nat_eq, List, [], ◌∷◌, length, take, Option, Some, None, Ok, Err, refl, sym, ap, ◌∙◌, arith}
+use Rattle.std.proofs.lemmas.Bool.{ne_eqb}
 use Rattle.ir_text.specs.Tokens.{Lexeme}
 use Rattle.ir_lex.specs.Tokenized.{Tokenized}
 use Rattle.ir_parts.specs.declared.ending.Ending.{Ending}
@@ -12,7 +13,6 @@ use Rattle.ir_parts.specs.MetadataReading.{attachments_at}
 use Rattle.ir_parts.proofs.Places.{length_left}
 use Rattle.ir_functions.specs.Silent.{trailing_at}
 use Rattle.ir_functions.specs.Calls.{tail_of, ended_at}
-use Rattle.ir_functions.proofs.MinimumNames.{unequal}
 
 -- no token is taken exactly where the places are one
 none_taken : (ts : List Lexeme) (n : ℕ) (run : Run) (text : List ℕ) → n ≤ length ts
@@ -20,7 +20,7 @@ none_taken : (ts : List Lexeme) (n : ℕ) (run : Run) (text : List ℕ) → n �
 none_taken ts zero run text within = refl
 none_taken [] (suc n) run text within = absurd (omega (arith, within))
 none_taken (t ∷ ts) (suc n) run text within =
-    sym (ap (λ (b : Bool). if b then Some run.ending else None) (unequal (suc n) 0 (λ e. omega (arith, e))))
+    sym (ap (λ (b : Bool). if b then Some run.ending else None) (ne_eqb (suc n) 0 (λ e. omega (arith, e))))
 
 pub ended_there : (t : Tokenized) (from end at : ℕ) (run : Run) (text : List ℕ) → end ≤ at → at ≤ length t.tokens
     → words_at (left_from t from) ≡ Ok ((run, text), left_from t end)

@@ -169,7 +169,7 @@ body_back head name args after ms ts l =
 
 -- a named callee, and what stands behind it
 abbrev WithNamed : Bool → CallHead → List ℕ → List Argument × Behind → Mentioning
-WithNamed has_result head name p = silent (one (IsRead has_result head.ret (Named name))) ⊙ CalledParts p
+WithNamed has_result head name p = silent (one (IsRead has_result (Named name))) ⊙ CalledParts p
 
 named_there : (has_result : Bool) (head : CallHead) (name : List ℕ) (p : List Argument × Behind)
     (ms : List Mention) (ts : List Lexeme) → WithNamed has_result head name p ms ts
@@ -187,7 +187,7 @@ named_there has_result head name p ms ts l =
         (λ ms ts l. silent_parted ms ts (silent_as (trailing_there p.1) ms ts l))) ms ts
         (nested ms ts l))
 
--- What may be called at the type.
+-- What is named may be called.
 called : (has_result : Bool) (head : CallHead) (name : List ℕ) (p : List Argument × Behind)
     (ms : List Mention) (ts : List Lexeme) → (silent (SpellsHead head) ⊙ WithNamed has_result head name p) ms ts
     → IsCallee name
@@ -237,7 +237,7 @@ call_there has_result operation tail ms ts l =
     (l.1.0, l.1.1, l.1.2, (l.1.3.0, l.1.3.1, l.1.3.2, l.1.3.3, l.1.3.4.1))
   where
     of_callee : (head : CallHead) (callee : Callee)
-        → (silent (SpellsHead head) ⊙ (silent (one (IsRead has_result head.ret callee))
+        → (silent (SpellsHead head) ⊙ (silent (one (IsRead has_result callee))
         ⊙ SpellsBehindCallee head callee (Some operation, tail))) ms ts
         → IsCall operation.op × SpellsWhole operation ms ts
     of_callee head Dropped l =

@@ -202,7 +202,7 @@ behind_callee_tells head (Named name) =
 -- a callee, and what stands behind it
 abbrev pub WithCallee : Bool → CallHead → Read → Mentioning
 WithCallee has_result head read ms ts = (callee : Callee)
-    × (silent (one (IsRead has_result head.ret callee)) ⊙ SpellsBehindCallee head callee read) ms ts
+    × (silent (one (IsRead has_result callee)) ⊙ SpellsBehindCallee head callee read) ms ts
 
 -- a call with its attachments, or one that is dropped
 abbrev pub SpellsCall : Bool → Read → Mentioning
@@ -213,10 +213,10 @@ pub call_tells : (has_result : Bool)
     → IsTeller (call_at has_result) (SpellsCall has_result) (λ read. StopsTail read.1)
 unfolding call_at
 call_tells has_result =
-    each_tells (λ head. silently (one_at (callee_of has_result head.ret)) >>= behind_callee_at head)
+    each_tells (λ head. silently (one_at (callee_of has_result)) >>= behind_callee_at head)
     (WithCallee has_result) (λ read. StopsTail read.1) (silent_tells head_reads)
     (λ head.
     each_tells (behind_callee_at head) (SpellsBehindCallee head) (λ read. StopsTail read.1)
-    (silent_tells (callee_reads has_result head.ret)) (behind_callee_tells head)
+    (silent_tells (callee_reads has_result)) (behind_callee_tells head)
     (λ callee read ms taken rest l stops. stops_at_all (taken ++ rest) (λ t. tt)))
     (λ head read ms taken rest l stops. stops_at_all (taken ++ rest) (λ t. tt))

@@ -98,22 +98,22 @@ body_back head after ts l =
 
 -- a head, a callee that is dropped, and what stands behind it
 abbrev ReadDropped : CallHead → Behind → Language
-ReadDropped head p = SpellsHead head · (one (IsRead false head.ret Dropped) · DroppedParts p)
+ReadDropped head p = SpellsHead head · (one (IsRead false Dropped) · DroppedParts p)
 
 dropped_is : (head : CallHead) (p : Behind) (ts : List Lexeme) → ReadDropped head p ts
     → (dropped_call · attachments) ts
 dropped_is head p ts l =
     let parts = head_as head {Z = BehindHead p.0.1} behind ts
-    (head_parted head (one (IsRead false head.ret Dropped) · DroppedParts p) ts l) in
+    (head_parted head (one (IsRead false Dropped) · DroppedParts p) ts l) in
     let body = body_there head p.0.1 ts parts in
     (body.0, body.1, body.2, (head.tail, head.before, p.0.1, head.ret, body.3), body.4)
   where
-    behind : (ts : List Lexeme) → (one (IsRead false head.ret Dropped) · DroppedParts p) ts → BehindHead p.0.1 ts
+    behind : (ts : List Lexeme) → (one (IsRead false Dropped) · DroppedParts p) ts → BehindHead p.0.1 ts
     behind ts l = (
       l.0,
       l.1,
       l.2,
-      one_as (dropped_read head.ret) l.0 l.3,
+      one_as dropped_read l.0 l.3,
       (l.4.0, l.4.1, l.4.2, l.4.3, trailing_there p l.4.1 l.4.4),
     )
 
@@ -143,7 +143,7 @@ dropped_has ts l =
           b.0,
           b.1,
           b.2,
-          one_as (dropped_reads head.ret) b.0 b.3,
+          one_as dropped_reads b.0 b.3,
           (b.4.0, b.4.1, b.4.2, b.4.3, behind.spelled),
         ),
       );
@@ -156,7 +156,7 @@ dropped_there tail ms ts l =
     (l.1.0, l.1.1, l.1.2, (l.1.3.0, l.1.3.1, l.1.3.2, l.1.3.3, l.1.3.4.1))
   where
     of_callee : (head : CallHead) (callee : Callee)
-        → (silent (SpellsHead head) ⊙ (silent (one (IsRead false head.ret callee))
+        → (silent (SpellsHead head) ⊙ (silent (one (IsRead false callee))
         ⊙ SpellsBehindCallee head callee (None, tail))) ms ts
         → (ms ≡ []) × (dropped_call · attachments) ts
     of_callee head (Named name) l =
@@ -164,10 +164,10 @@ dropped_there tail ms ts l =
     of_callee head Dropped l =
         let inner = l.3.4 in
         let b = inner.3.4 in
-        let behind = silent_joined {A = one (IsRead false head.ret Dropped)} {B = DroppedParts b.0} l.1 l.3.1
+        let behind = silent_joined {A = one (IsRead false Dropped)} {B = DroppedParts b.0} l.1 l.3.1
         (inner.0, inner.1, inner.2, (inner.3.0, inner.3.1, inner.3.2, inner.3.3, b.2)) in
         let whole = silent_joined {A = SpellsHead head}
-        {B = one (IsRead false head.ret Dropped) · DroppedParts b.0} ms ts
+        {B = one (IsRead false Dropped) · DroppedParts b.0} ms ts
         (l.0, l.1, l.2, (l.3.0, l.3.1, l.3.2, l.3.3, behind)) in
         (whole.0, dropped_is head b.0 ts whole.1)
 
@@ -203,10 +203,10 @@ pub never_dropped : (tail : Option Ending) (ms : List Mention) (ts : List Lexeme
 never_dropped tail ms ts l = of_callee l.0 l.1.3.4.0 l.1.1 l.1.3.1 l.1.3.4.1
   where
     of_callee : (head : CallHead) (callee : Callee) (ms : List Mention) (ts : List Lexeme)
-        → (silent (one (IsRead true head.ret callee)) ⊙ SpellsBehindCallee head callee (None, tail)) ms ts → ⊥
+        → (silent (one (IsRead true callee)) ⊙ SpellsBehindCallee head callee (None, tail)) ms ts → ⊥
     of_callee head (Named name) ms ts l =
         let none : ◌≡◌ {A = Option Operation} None (Some _) = ap (λ (read : Read). read.0) l.3.4.1 in cc
-    of_callee head Dropped ms ts l = let token = l.3.3.1 in dropped_never head.ret token.0 token.2
+    of_callee head Dropped ms ts l = let token = l.3.3.1 in dropped_never token.0 token.2
 
 -- ---- how they begin
 

@@ -30,7 +30,6 @@ pub mod WholeFunctions
 pub mod LineAt
 pub mod BodyAt
 pub mod ArgumentAt
-pub mod MinimumNames
 pub mod TailAt
 pub mod CalleeAt
 pub mod BehindAt

@@ -1,5 +1,5 @@
 -- Reading calls, and calls that are dropped, with the attachments behind them.
-use Rattle.std.specs.Prelude.{ℕ, Bool, false, ◌||◌, not, if◌then◌else◌, List, [], ◌∷◌, ◌++◌, Option, Some, None}
+use Rattle.std.specs.Prelude.{ℕ, Bool, ◌||◌, not, if◌then◌else◌, List, [], ◌∷◌, ◌++◌, Option, Some, None}
 use Rattle.std.specs.Option.{option_and_then}
 use Rattle.ir_model.specs.declared.op.Op.TheVariants.{Call}
 use Rattle.ir_model.specs.Callees.{is_min_max}

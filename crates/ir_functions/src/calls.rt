@@ -11,7 +11,7 @@ use crate::argument_list::{Arguments, read_arguments};
 use ir_body::{Operation, read_flag};
 use ir_grammar::{is_dropped_name, is_intrinsic};
 use ir_lex::Tokens;
-use ir_model::{MinMax, Op, Text};
+use ir_model::{IrType, MinMax, Op, Text};
 use ir_parts::{
     Ending, ItemFault, behind_keyword, behind_sign, parentheses, read_global_name,
     read_returned_type, skip_metadata, text_between, words,
