@@ -2,7 +2,7 @@
 # Times `scev report` and LLVM 22's `print<scalar-evolution>` side by side: on functions of many one-block loops with
 # eight phis each, and on functions of a single loop with many phis. Each run is made three times with the least time
 # kept. Prints seconds, their ratio, and how the time grew from each size to the next. The peer works out more: flags,
-# counts and every value; its three runs on a thousand loops take minutes. Needs opt-22 (Debian's llvm-22) and the
+# counts and every value; its three runs on four hundred loops take long. Needs opt-22 (Debian's llvm-22) and the
 # built program (./scev builds it).
 here=$(dirname "$(readlink -f "$0")") || exit 2
 . "$here/seconds.sh"
@@ -23,11 +23,11 @@ measure() {
 printf '%8s %8s %10s %10s %10s %8s %8s %8s\n' loops phis bytes scev opt ratio growth opt-growth
 old=0
 old_peer=0
-for loops in 100 300 1000; do
+for loops in 40 130 400; do
     measure $loops 8
 done
 old=0
 old_peer=0
-for phis in 400 4000 40000; do
+for phis in 40 400 4000; do
     measure 1 $phis
 done

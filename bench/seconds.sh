@@ -16,3 +16,10 @@ seconds() {
         echo "$start $end"
     done | awk '{ t = $2 - $1; if (NR == 1 || t < least) least = t } END { printf "%.4f", least }'
 }
+
+# what clang writes for so many C functions of twelve loops, of about 13 KB each
+kernels() {
+    awk -v functions="$1" -f "$here/kernels.awk" >"$work/kernels.c"
+    "${CLANG:-clang-22}" -O2 -fno-vectorize -fno-slp-vectorize -fno-unroll-loops -fno-builtin -mllvm -replexitval=never \
+        -S -emit-llvm -o - "$work/kernels.c"
+}
