@@ -14,7 +14,7 @@ use Rattle.ir_meaning.specs.declared.value.Value.{Value}
 use Rattle.ir_meaning.specs.declared.choice.Choice.{Choice}
 use Rattle.ir_meaning.specs.State.{Registers, set, Event, State}
 use Rattle.ir_meaning.specs.Operands.{chosen}
-use Rattle.ir_meaning.specs.Step.{Goes, effect, instr_at, phi_value, with_phis}
+use Rattle.ir_meaning.specs.Step.{Computed, Gives, Fails, Goes, effect, gone, instr_at, phi_value, with_phis, with_given}
 use Rattle.ir_meaning.specs.Run.{GivesTo}
 use Rattle.ir_meaning.proofs.StepShape.{Stepped, stays, ends, goes_on, enters}
 
@@ -26,6 +26,19 @@ pub set_other : (registers : Registers) (result : Option ValueId) (x : Value) (v
 set_other registers None x v other = refl
 set_other registers (Some w) x v other =
     cond-false (v == w.0) (Some x) (registers v) (ne_eqb v w.0 (λ e. other (rw e)))
+
+-- and so with what an instruction gives, if anything
+pub given_same : (registers : Registers) (result : Option ValueId) (x : Option Value) (y : Value) (v : ℕ) → x ≡ Some y → result ≡ Some (record { 0 = v }) → with_given registers result x v ≡ Some y
+given_same registers result x y v gives is = rw gives (set_same registers result y v is)
+
+pub given_other : (registers : Registers) (result : Option ValueId) (x : Option Value) (v : ℕ) → (result ≡ Some (record { 0 = v }) → ⊥) → with_given registers result x v ≡ registers v
+given_other registers result None v other = refl
+given_other registers result (Some x) v other = set_other registers result x v other
+
+-- what is computed goes on with its value
+pub gone_on : (s : State) (c : Computed) (x : Option Value) (memory : Memory) (events : List Event) → gone s c ≡ Goes x memory events → (y : Value) × (x ≡ Some y) × (c ≡ Gives y)
+gone_on s (Gives y) x memory events goes = (y, cc, refl)
+gone_on s (Fails how) x memory events goes = cc
 
 -- The register is the result of no instruction of the list.
 abbrev pub GivenByNone : List Instr → ℕ → Type 0
