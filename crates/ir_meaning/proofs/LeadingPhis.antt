@@ -26,7 +26,7 @@ leading_at (x ∷ xs) instr k at =
     leading_first x xs instr (leading_at xs instr) (is_phi x.op) refl k (ap (λ (found : List Instr). slice_get found k) (sym (take_while-cons (λ (i : Instr). is_phi i.op) x xs)) ∙ at)
 
 -- what stands before their end is a phi
-pub phi_before : (instrs : List Instr) (instr : Instr) (k : ℕ) → slice_get instrs k ≡ Some instr → k < length (leading_phis instrs) → is_phi instr.op ≡ true
+phi_before : (instrs : List Instr) (instr : Instr) (k : ℕ) → slice_get instrs k ≡ Some instr → k < length (leading_phis instrs) → is_phi instr.op ≡ true
 phi_before instrs instr k at before =
     let there = leading_at instrs (get_or (leading_phis instrs) k instr) k (slice_get-get_or (leading_phis instrs) k instr before) in
     ap (λ (i : Instr). is_phi i.op) (same_Some instr (get_or (leading_phis instrs) k instr) (sym at ∙ there.0)) ∙ there.1

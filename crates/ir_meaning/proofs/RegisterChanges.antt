@@ -18,11 +18,11 @@ use Rattle.ir_meaning.specs.Step.{Computed, Gives, Fails, Goes, effect, gone, in
 use Rattle.ir_meaning.specs.Run.{GivesTo}
 use Rattle.ir_meaning.proofs.StepShape.{Stepped, stays, ends, goes_on, enters}
 
-pub set_same : (registers : Registers) (result : Option ValueId) (x : Value) (v : ℕ) → result ≡ Some (record { 0 = v }) → set registers result x v ≡ Some x
+set_same : (registers : Registers) (result : Option ValueId) (x : Value) (v : ℕ) → result ≡ Some (record { 0 = v }) → set registers result x v ≡ Some x
 set_same registers result x v is =
     rw is (cond-true (v == v) (Some x) (registers v) (eq-eqb v v refl))
 
-pub set_other : (registers : Registers) (result : Option ValueId) (x : Value) (v : ℕ) → (result ≡ Some (record { 0 = v }) → ⊥) → set registers result x v ≡ registers v
+set_other : (registers : Registers) (result : Option ValueId) (x : Value) (v : ℕ) → (result ≡ Some (record { 0 = v }) → ⊥) → set registers result x v ≡ registers v
 set_other registers None x v other = refl
 set_other registers (Some w) x v other =
     cond-false (v == w.0) (Some x) (registers v) (ne_eqb v w.0 (λ e. other (rw e)))
