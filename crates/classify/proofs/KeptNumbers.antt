@@ -1,5 +1,5 @@
 -- Registers that hold poison or one number, and what an `add` of a numeral makes of them.
-use Rattle.std.specs.Prelude.{◌≡◌, ℕ, ◌+◌, ◌%◌, ◌^◌, ◌<◌, ◌⊎◌, ℤ, pos, negsuc, Bool, false, Option, Some, None, refl}
+use Rattle.std.specs.Prelude.{◌≡◌, ℕ, ◌+◌, ◌%◌, ◌^◌, ◌<◌, ◌⊎◌, ℤ, pos, negsuc, List, Bool, false, Option, Some, None, refl}
 use Rattle.std.proofs.Common.{ap, sym, subst, ◌∙◌, arith, inl, inr}
 use Rattle.std.proofs.lemmas.Bool.{cases_cond}
 use Rattle.std.proofs.lemmas.Nat.{mod_below}
@@ -13,13 +13,16 @@ use Rattle.ir_model.specs.declared.op.Operand.TheVariants as operand
 use Rattle.ir_model.specs.declared.op.BinOp.TheVariants as binary
 use Rattle.ir_model.specs.declared.op.Op.{Op}
 use Rattle.ir_model.specs.declared.op.Op.TheVariants.{Binary}
+use Rattle.ir_memory.specs.Memory.{Memory}
 use Rattle.ir_meaning.specs.declared.value.Value.{Value}
 use Rattle.ir_meaning.specs.declared.value.Value.TheVariants as value
-use Rattle.ir_meaning.specs.State.{Registers}
-use Rattle.ir_meaning.specs.Operands.{of_type, operand_value}
+use Rattle.ir_meaning.specs.declared.choice.Choice.{Choice}
+use Rattle.ir_meaning.specs.State.{Registers, Event, State}
+use Rattle.ir_meaning.specs.Operands.{chosen, of_type, operand_value}
 use Rattle.ir_meaning.specs.Rows.{on_numbers, added}
 use Rattle.ir_model.specs.Shapes.{is_phi}
-use Rattle.ir_meaning.specs.Step.{Gives, with_value, effect}
+use Rattle.ir_meaning.specs.Step.{Gives, Goes, with_value, computed, effect}
+use Rattle.ir_meaning.proofs.RegisterChanges.{gone_on}
 use Rattle.classify.specs.Recurrence.{IsNumeral, Increments}
 
 -- poison, or this number
@@ -68,10 +71,10 @@ sum_kept nuw nsw a b m k (inr number) (inr number') =
     chosen (inl e) = inl (ap (λ (x : Value). Some x) e)
     chosen (inr e) = inr (ap (λ (x : Value). Some x) e)
 
-pub add_kept : (registers : Registers) (n p step m : ℕ) (op : Op) (x : Value) → Increments p step op → Keeps (registers p) m → effect registers n op ≡ Gives x → Keeps (Some x) ((m + step) % 2 ^ 32)
-add_kept registers n p step m (Binary binary.Add nuw nsw exact disjoint kind left right) x is kept gives =
-    let effect' : with_value (operand_value registers n (Int 32) left) (λ a. with_value (operand_value registers n (Int 32) right) (λ b. Gives (on_numbers (added 32 nuw nsw) a b))) ≡ Gives x = subst (λ (t : IrType). effect registers n (Binary binary.Add nuw nsw exact disjoint t left right) ≡ Gives x) is.0 gives in
-    let both = two_given (operand_value registers n (Int 32) left) (operand_value registers n (Int 32) right) (on_numbers (added 32 nuw nsw)) x effect' in
+computed_kept : (registers : Registers) (n p step m : ℕ) (op : Op) (x : Value) → Increments p step op → Keeps (registers p) m → computed registers n op ≡ Gives x → Keeps (Some x) ((m + step) % 2 ^ 32)
+computed_kept registers n p step m (Binary binary.Add nuw nsw exact disjoint kind left right) x is kept gives =
+    let sum : with_value (operand_value registers n (Int 32) left) (λ a. with_value (operand_value registers n (Int 32) right) (λ b. Gives (on_numbers (added 32 nuw nsw) a b))) ≡ Gives x = subst (λ (t : IrType). computed registers n (Binary binary.Add nuw nsw exact disjoint t left right) ≡ Gives x) is.0 gives in
+    let both = two_given (operand_value registers n (Int 32) left) (operand_value registers n (Int 32) right) (on_numbers (added 32 nuw nsw)) x sum in
     subst (λ (y : Value). Keeps (Some y) ((m + step) % 2 ^ 32)) both.4 (in_order both.0 both.1 both.2 both.3 is.1)
   where
     register : (a : Value) (o : Operand) → o ≡ operand.Reg (record { 0 = p }) → operand_value registers n (Int 32) o ≡ Some a → Keeps (Some a) m
@@ -86,7 +89,15 @@ add_kept registers n p step m (Binary binary.Add nuw nsw exact disjoint kind lef
         sum_kept nuw nsw a b m step (register a left order.0 hasl) (numeral b right order.1 hasr)
     in_order a b hasl hasr (inr order) =
         subst (λ (k : ℕ). Keeps (Some (on_numbers (added 32 nuw nsw) a b)) (k % 2 ^ 32)) (add_comm step m) (sum_kept nuw nsw a b step m (numeral a left order.0 hasl) (register b right order.1 hasr))
-add_kept registers n p step m _ x is kept gives = absurd is
+computed_kept registers n p step m _ x is kept gives = absurd is
+
+-- where an `add` of a numeral is carried out
+pub add_kept : (choice : Choice) (s : State) (p step m : ℕ) (op : Op) (x : Option Value) (memory : Memory) (events : List Event) → Increments p step op → Keeps (s.registers p) m → effect choice s op ≡ Goes x memory events → (y : Value) × (x ≡ Some y) × Keeps (Some y) ((m + step) % 2 ^ 32)
+add_kept choice s p step m (Binary binary.Add nuw nsw exact disjoint kind left right) x memory events is kept goes =
+    let add = Binary binary.Add nuw nsw exact disjoint kind left right in
+    let sum = gone_on s (computed s.registers (chosen choice) add) x memory events goes in
+    (sum.0, sum.1, computed_kept s.registers (chosen choice) p step m add sum.0 is kept sum.2)
+add_kept choice s p step m _ x memory events is kept goes = absurd is
 
 pub increment_no_phi : (p step : ℕ) (op : Op) → Increments p step op → is_phi op ≡ false
 increment_no_phi p step (Binary binary.Add nuw nsw exact disjoint kind left right) is = refl

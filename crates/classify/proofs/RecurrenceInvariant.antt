@@ -11,22 +11,22 @@ use Rattle.ir_model.specs.declared.op.Op.TheVariants.{Phi}
 use Rattle.ir_model.specs.declared.function.Instr.{Instr}
 use Rattle.ir_model.specs.declared.function.Block.{Block}
 use Rattle.ir_model.specs.declared.function.Function.{Function}
-use Rattle.ir_meaning.specs.declared.phase.Phase.{Phase}
-use Rattle.ir_meaning.specs.declared.phase.Phase.TheVariants as phase
+use Rattle.ir_memory.specs.Memory.{Memory}
+use Rattle.ir_meaning.specs.declared.choice.Choice.{Choice}
 use Rattle.ir_meaning.specs.declared.value.Value.{Value}
 use Rattle.ir_meaning.specs.declared.value.Value.TheVariants as value
-use Rattle.ir_meaning.specs.State.{Registers, set, State}
+use Rattle.ir_meaning.specs.State.{Registers, Event, State}
 use Rattle.ir_meaning.specs.Operands.{chosen, operand_value}
-use Rattle.ir_model.specs.Shapes.{block_of, leading_phis}
-use Rattle.ir_meaning.specs.Step.{Effect, Gives, Enters, Ends, effect, entry_from, phi_value, with_phis, behind_phis, instr_at}
+use Rattle.ir_model.specs.Shapes.{block_of, leading_phis, is_terminator}
+use Rattle.ir_meaning.specs.Step.{Goes, Enters, effect, way, entry_from, phi_value, with_phis, behind_phis, with_given, after_effect, instr_at}
 use Rattle.ir_meaning.specs.Run.{Run, start, last}
 use Rattle.ir_meaning.specs.Thin.{IsThinFunction}
 use Rattle.ir_meaning.proofs.StepShape.{Stepped, stays, ends, goes_on, enters}
 use Rattle.ir_meaning.proofs.RunInvariants.{after_keeps}
 use Rattle.ir_meaning.proofs.Trails.{HasTrail, trail_kept}
-use Rattle.ir_meaning.proofs.RegisterChanges.{from_and_then, set_same, set_other, phis_at, GivenOnlyAt}
-use Rattle.ir_meaning.proofs.LeadingPhis.{leading_at, phi_before, behind_leading, stuck_at_phi}
-use Rattle.ir_meaning.proofs.ThinBlocks.{giving_before_entering}
+use Rattle.ir_meaning.proofs.RegisterChanges.{from_and_then, given_same, given_other, phis_at, GivenOnlyAt}
+use Rattle.ir_meaning.proofs.LeadingPhis.{leading_at, behind_leading, last_no_phi, going_no_phi}
+use Rattle.ir_meaning.proofs.ThinBlocks.{giving_before_terminator}
 use Rattle.loop_regions.specs.Loops.{Loop}
 use Rattle.loop_regions.specs.Turns.{has, turn}
 use Rattle.ir_model.specs.Walks.{Edge}
@@ -60,20 +60,6 @@ instr_in : (f : Function) (s : State) (b : ℕ) (block : Block) (instr : Instr) 
 instr_in f s b block instr here found at =
     subst (λ (o : Option Block). option_and_then (λ (one : Block). slice_get one.instrs s.place) o ≡ Some instr) (ap (λ (c : ℕ). block_of f c) here ∙ found) at
 
--- where an instruction does something, it isn't one of the leading phis
-behind_by_effect : (registers : Registers) (n place : ℕ) (instrs : List Instr) (instr : Instr) → slice_get instrs place ≡ Some instr → (effect registers n instr.op ≡ Ends phase.Stuck → ⊥) → length (leading_phis instrs) ≤ place
-behind_by_effect registers n place instrs instr at acts =
-    elim (cases_lt place (length (leading_phis instrs))) [
-      | inl early ↦ absurd (acts (stuck_at_phi registers n instr.op (phi_before instrs instr place at early)))
-      | inr behind ↦ behind
-    ]
-
-not_gives : (how : Phase) (x : Value) (e : Effect) → e ≡ Gives x → e ≡ Ends how → ⊥
-not_gives how x e gives over = cc
-
-not_enters : (how : Phase) (b : ℕ) (e : Effect) → e ≡ Enters b → e ≡ Ends how → ⊥
-not_enters how b e leads over = cc
-
 module _ (f : Function) (b p first step : ℕ) (l : Loop) (g : Setting f b p first step l) where
   phi_in_block : slice_get g.shape.block.instrs g.shape.phi_at ≡ Some g.shape.phi
   phi_in_block = (leading_at g.shape.block.instrs g.shape.phi g.shape.phi_at g.shape.phi_there).0
@@ -87,27 +73,28 @@ module _ (f : Function) (b p first step : ℕ) (l : Loop) (g : Setting f b p fir
   phi_early : g.shape.phi_at < length (leading_phis g.shape.block.instrs)
   phi_early = slice_get_within (leading_phis g.shape.block.instrs) g.shape.phi_at g.shape.phi g.shape.phi_there
 
-  -- an instruction that gives a value
-  next_after : (n : ℕ) (s : State) (instr : Instr) (x : Value) → slice_get g.shape.block.instrs s.place ≡ Some instr → effect s.registers n instr.op ≡ Gives x → Keeps (s.registers p) (at_turn first step (turn l s.trail)) → (g.shape.add_at < s.place → Keeps (s.registers g.shape.next) (at_turn first step (suc (turn l s.trail)))) → (g.shape.add_at < s.place) ⊎ (s.place ≤ g.shape.add_at) → g.shape.add_at < s.place + 1 → Keeps (set s.registers instr.result x g.shape.next) (at_turn first step (suc (turn l s.trail)))
-  next_after n s instr x there gives held rest (inl early) past =
-      let other : set s.registers instr.result x g.shape.next ≡ s.registers g.shape.next = set_other s.registers instr.result x g.shape.next (λ is. absurd (omega (arith, add_alone s.place instr there is))) in
-      subst (λ (o : Option Value). Keeps o (at_turn first step (suc (turn l s.trail)))) (sym other) (rest early)
-  next_after n s instr x there gives held rest (inr late) past =
-      let same : g.shape.add_at ≡ s.place = omega arith in
-      let is : instr ≡ g.shape.add = same_Some instr g.shape.add (sym there ∙ sym (ap (λ (k : ℕ). slice_get g.shape.block.instrs k) same) ∙ g.shape.add_there) in
-      let given : set s.registers instr.result x g.shape.next ≡ Some x = set_same s.registers instr.result x g.shape.next (ap (λ (i : Instr). i.result) is ∙ g.shape.add_gives) in
-      let sum : Keeps (Some x) ((at_turn first step (turn l s.trail) + step) % 2 ^ 32) = add_kept s.registers n p step (at_turn first step (turn l s.trail)) g.shape.add.op x g.shape.increments held (ap (λ (i : Instr). effect s.registers n i.op) (sym is) ∙ gives) in
-      subst (λ (o : Option Value). Keeps o (at_turn first step (suc (turn l s.trail)))) (sym given) (subst (λ (k : ℕ). Keeps (Some x) k) (next_turn first step (turn l s.trail) (2 ^ 32)) sum)
+  -- an instruction that is no terminator
+  module _ (choice : Choice) (s : State) (instr : Instr) (x : Option Value) (memory : Memory) (events : List Event) (at : instr_at f s ≡ Some instr) (goes : effect choice s instr.op ≡ Goes x memory events) where
+    next_after : slice_get g.shape.block.instrs s.place ≡ Some instr → Keeps (s.registers p) (at_turn first step (turn l s.trail)) → (g.shape.add_at < s.place → Keeps (s.registers g.shape.next) (at_turn first step (suc (turn l s.trail)))) → (g.shape.add_at < s.place) ⊎ (s.place ≤ g.shape.add_at) → g.shape.add_at < s.place + 1 → Keeps (with_given s.registers instr.result x g.shape.next) (at_turn first step (suc (turn l s.trail)))
+    next_after there held rest (inl early) past =
+        let other : with_given s.registers instr.result x g.shape.next ≡ s.registers g.shape.next = given_other s.registers instr.result x g.shape.next (λ is. absurd (omega (arith, add_alone s.place instr there is))) in
+        subst (λ (o : Option Value). Keeps o (at_turn first step (suc (turn l s.trail)))) (sym other) (rest early)
+    next_after there held rest (inr late) past =
+        let same : g.shape.add_at ≡ s.place = omega arith in
+        let is : instr ≡ g.shape.add = same_Some instr g.shape.add (sym there ∙ sym (ap (λ (k : ℕ). slice_get g.shape.block.instrs k) same) ∙ g.shape.add_there) in
+        let sum = add_kept choice s p step (at_turn first step (turn l s.trail)) g.shape.add.op x memory events g.shape.increments held (ap (λ (i : Instr). effect choice s i.op) (sym is) ∙ goes) in
+        let given : with_given s.registers instr.result x g.shape.next ≡ Some sum.0 = given_same s.registers instr.result x sum.0 g.shape.next sum.1 (ap (λ (i : Instr). i.result) is ∙ g.shape.add_gives) in
+        subst (λ (o : Option Value). Keeps o (at_turn first step (suc (turn l s.trail)))) (sym given) (subst (λ (k : ℕ). Keeps (Some sum.0) k) (next_turn first step (turn l s.trail) (2 ^ 32)) sum.2)
 
-  here_after_value : (n : ℕ) (s : State) (instr : Instr) (x : Value) → Here f b p first step l g.shape s → instr_at f s ≡ Some instr → effect s.registers n instr.op ≡ Gives x → Here f b p first step l g.shape (record s { place = s.place + 1; registers = set s.registers instr.result x })
-  here_after_value n s instr x h at gives here late =
-      let there = instr_in f s b g.shape.block instr here g.shape.is_block at in
-      let behind = behind_by_effect s.registers n s.place g.shape.block.instrs instr there (not_gives phase.Stuck x (effect s.registers n instr.op) gives) in
-      let old = h here behind in
-      let other : set s.registers instr.result x p ≡ s.registers p = set_other s.registers instr.result x p (λ is. absurd (omega (arith, phi_alone s.place instr there is, phi_early, behind))) in (
-        subst (λ (o : Option Value). Keeps o (at_turn first step (turn l s.trail))) (sym other) old.0,
-        next_after n s instr x there gives old.0 old.1 (cases_lt g.shape.add_at s.place),
-      )
+    here_after_going : Here f b p first step l g.shape s → Here f b p first step l g.shape (after_effect instr.result s (Goes x memory events))
+    here_after_going h here late =
+        let there = instr_in f s b g.shape.block instr here g.shape.is_block at in
+        let behind = behind_leading g.shape.block.instrs instr s.place there (going_no_phi choice s instr.op x memory events goes) in
+        let old = h here behind in
+        let other : with_given s.registers instr.result x p ≡ s.registers p = given_other s.registers instr.result x p (λ is. absurd (omega (arith, phi_alone s.place instr there is, phi_early, behind))) in (
+          subst (λ (o : Option Value). Keeps o (at_turn first step (turn l s.trail))) (sym other) old.0,
+          next_after there old.0 old.1 (cases_lt g.shape.add_at s.place),
+        )
 
   -- the phi's value where the block is entered
   phi_given : (n : ℕ) (s : State) (registers : Registers) → with_phis s.registers n s.block (leading_phis g.shape.block.instrs) s.registers ≡ Some registers → (x : Value) × (o : Operand) × (entry_from s.block g.shape.entries ≡ Some o) × (operand_value s.registers n (Int 32) o ≡ Some x) × (registers p ≡ Some x)
@@ -118,11 +105,11 @@ module _ (f : Function) (b p first step : ℕ) (l : Loop) (g : Setting f b p fir
       (at.0, entry.0, entry.1, entry.2, at.2)
 
   -- from the block itself: the register of the `add`
-  entered_again : (n : ℕ) (s : State) (instr : Instr) (c : ℕ) (registers : Registers) → HasTrail s → Here f b p first step l g.shape s → instr_at f s ≡ Some instr → effect s.registers n instr.op ≡ Enters c → with_phis s.registers n s.block (leading_phis g.shape.block.instrs) s.registers ≡ Some registers → c ≡ b → s.block ≡ b → has l s.block ≡ true → Keeps (registers p) (at_turn first step (turn l (c ∷ s.trail)))
-  entered_again n s instr c registers trail h at leads phis is here inside =
+  entered_again : (n : ℕ) (s : State) (instr : Instr) (c : ℕ) (registers : Registers) → HasTrail s → Here f b p first step l g.shape s → instr_at f s ≡ Some instr → is_terminator instr.op ≡ true → with_phis s.registers n s.block (leading_phis g.shape.block.instrs) s.registers ≡ Some registers → c ≡ b → s.block ≡ b → has l s.block ≡ true → Keeps (registers p) (at_turn first step (turn l (c ∷ s.trail)))
+  entered_again n s instr c registers trail h at last phis is here inside =
       let there = instr_in f s b g.shape.block instr here g.shape.is_block at in
-      let behind = behind_by_effect s.registers n s.place g.shape.block.instrs instr there (not_enters phase.Stuck c (effect s.registers n instr.op) leads) in
-      let past = giving_before_entering f b g.shape.block s.registers n g.shape.add_at s.place g.shape.add instr g.shape.next c g.thin g.shape.is_block g.shape.add_there g.shape.add_gives there leads in
+      let behind = behind_leading g.shape.block.instrs instr s.place there (last_no_phi instr.op last) in
+      let past = giving_before_terminator f b g.shape.block g.shape.add_at s.place g.shape.add instr g.shape.next g.thin g.shape.is_block g.shape.add_there g.shape.add_gives there last in
       let old = (h here behind).1 past in
       let given = phi_given n s registers phis in
       let entry : given.1 ≡ operand.Reg (record { 0 = g.shape.next }) = same_Some given.1 (operand.Reg (record { 0 = g.shape.next })) (sym given.2 ∙ ap (λ (a : ℕ). entry_from a g.shape.entries) here ∙ g.shape.from_inside) in
@@ -140,28 +127,29 @@ module _ (f : Function) (b p first step : ℕ) (l : Loop) (g : Setting f b p fir
       let turned = turn_anew l s.trail s.block s.previous c trail (is ∙ g.header) outside in
       subst (λ (t : ℕ). Keeps (registers p) (at_turn first step t)) (sym turned) (inr (number ∙ ap (λ (k : ℕ). Some (value.Number k)) (sym whole)))
 
-  here_after_entering : (n : ℕ) (s : State) (instr : Instr) (c : ℕ) (block : Block) (registers : Registers) → HasTrail s → Here f b p first step l g.shape s → instr_at f s ≡ Some instr → effect s.registers n instr.op ≡ Enters c → block_of f c ≡ Some block → with_phis s.registers n s.block (leading_phis block.instrs) s.registers ≡ Some registers → Here f b p first step l g.shape (behind_phis c block s (Some registers))
-  here_after_entering n s instr c block registers trail h at leads found phis is late =
+  here_after_entering : (n : ℕ) (s : State) (instr : Instr) (c : ℕ) (block : Block) (registers : Registers) → HasTrail s → Here f b p first step l g.shape s → instr_at f s ≡ Some instr → is_terminator instr.op ≡ true → way s.registers n instr.op ≡ Enters c → block_of f c ≡ Some block → with_phis s.registers n s.block (leading_phis block.instrs) s.registers ≡ Some registers → Here f b p first step l g.shape (behind_phis c block s (Some registers))
+  here_after_entering n s instr c block registers trail h at last leads found phis is late =
       let same : block ≡ g.shape.block = same_Some block g.shape.block (sym found ∙ ap (λ (a : ℕ). block_of f a) is ∙ g.shape.is_block) in
       let phis' : with_phis s.registers n s.block (leading_phis g.shape.block.instrs) s.registers ≡ Some registers = subst (λ (one : Block). with_phis s.registers n s.block (leading_phis one.instrs) s.registers ≡ Some registers) same phis in
       let edge : Edge f s.block b = subst (λ (a : ℕ). Edge f s.block a) is (edge_of_entering f n s instr c at leads) in
       let count : length (leading_phis block.instrs) ≡ length (leading_phis g.shape.block.instrs) = ap (λ (one : Block). length (leading_phis one.instrs)) same in
       let add_late = behind_leading g.shape.block.instrs g.shape.add g.shape.add_at g.shape.add_there (increment_no_phi p step g.shape.add.op g.shape.increments) in
       let phi_kept : Keeps (registers p) (at_turn first step (turn l (c ∷ s.trail))) = elim (g.before s.block edge) [
-        | inl again ↦ entered_again n s instr c registers trail h at leads phis' is again.0 again.1
+        | inl again ↦ entered_again n s instr c registers trail h at last phis' is again.0 again.1
         | inr anew ↦ entered_anew n s c registers trail phis' is anew.0 anew.1
       ] in
       (phi_kept, λ past. absurd (omega (arith, add_late, count, past)))
 
-  here_kept : (n : ℕ) (s t : State) → Stepped f n s t → HasTrail s → Here f b p first step l g.shape s → Here f b p first step l g.shape t
-  here_kept n s t (stays e) trail h = subst (λ (u : State). Here f b p first step l g.shape u) (sym e) h
-  here_kept n s t (ends how e) trail h = subst (λ (u : State). Here f b p first step l g.shape u) (sym e) h
-  here_kept n s t (goes_on instr x at gives e) trail h =
-      subst (λ (u : State). Here f b p first step l g.shape u) (sym e) (here_after_value n s instr x h at gives)
-  here_kept n s t (enters instr c block registers at leads found phis e) trail h =
-      subst (λ (u : State). Here f b p first step l g.shape u) (sym e) (here_after_entering n s instr c block registers trail h at leads found phis)
+  here_kept : (choice : Choice) (s t : State) → Stepped f choice s t → HasTrail s → Here f b p first step l g.shape s → Here f b p first step l g.shape t
+  here_kept choice s t (stays e) trail h = subst (λ (u : State). Here f b p first step l g.shape u) (sym e) h
+  here_kept choice s t (ends how e) trail h =
+      subst (λ (u : State). Here f b p first step l g.shape u) (sym e) h
+  here_kept choice s t (goes_on instr x memory events at other goes e) trail h =
+      subst (λ (u : State). Here f b p first step l g.shape u) (sym e) (here_after_going choice s instr x memory events at goes h)
+  here_kept choice s t (enters instr c block registers at last leads found phis e) trail h =
+      subst (λ (u : State). Here f b p first step l g.shape u) (sym e) (here_after_entering (chosen choice) s instr c block registers trail h at last leads found phis)
 
   -- at each state of a run the trail goes with the block, and the recurrence is kept
   pub kept_in_run : (r : Run f) → HasTrail (last f r) × Here f b p first step l g.shape (last f r)
   kept_in_run r =
-      after_keeps f (λ s. HasTrail s × Here f b p first step l g.shape s) (λ choice s t stepped h. (trail_kept f (chosen choice) s t stepped h.0, here_kept (chosen choice) s t stepped h.0 h.1)) (start f r.args r.memory) r.choices ((refl, refl), λ here late. absurd (omega (arith, phi_early, late)))
+      after_keeps f (λ s. HasTrail s × Here f b p first step l g.shape s) (λ choice s t stepped h. (trail_kept f choice s t stepped h.0, here_kept choice s t stepped h.0 h.1)) (start f r.args r.memory) r.choices ((refl, refl), λ here late. absurd (omega (arith, phi_early, late)))

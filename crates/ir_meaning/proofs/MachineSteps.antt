@@ -1,9 +1,11 @@
 -- What the parts of a step do to a machine and to the state for which it stands.
-use Rattle.std.specs.Prelude.{◌≡◌, ℕ, zero, suc, ◌+◌, replicate, true, false, List, length, Option, Some, None, slice_get, refl}
+use Rattle.std.specs.Prelude.{◌≡◌, ℕ, zero, suc, ◌+◌, ◌-◌, ◌^◌, min, replicate, true, false, List, length, Option, Some, None, refl}
 use Rattle.std.proofs.Common.{ap, sym, ◌∙◌}
 use Rattle.std.proofs.Math.Path.{fun_ext}
+use Rattle.std.proofs.lemmas.List.{append-nil}
 use Rattle.scev_base.specs.declared.ids.ValueId.{ValueId}
 use Rattle.ir_model.specs.declared.function.Param.{Param}
+use Rattle.ir_model.specs.declared.op.Op.{Op}
 use Rattle.ir_model.specs.declared.function.Instr.{Instr}
 use Rattle.ir_memory.specs.Memory.{Memory}
 use Rattle.ir_model.specs.declared.function.Block.{Block}
@@ -12,10 +14,9 @@ use Rattle.ir_meaning.specs.declared.value.Value.{Value}
 use Rattle.ir_meaning.specs.declared.phase.Phase.{Phase}
 use Rattle.ir_meaning.specs.declared.phase.Phase.TheVariants as phase
 use Rattle.ir_meaning.specs.declared.choice.Choice.{Choice}
-use Rattle.ir_meaning.specs.State.{Registers, State, set, is_running, ended}
-use Rattle.ir_meaning.specs.Operands.{chosen}
+use Rattle.ir_meaning.specs.State.{Registers, Event, State, set, is_running, ended}
 use Rattle.ir_model.specs.Shapes.{block_of, leading_phis}
-use Rattle.ir_meaning.specs.Step.{Effect, effect, with_phis, entered, after_effect, instr_at, carried_out, step}
+use Rattle.ir_meaning.specs.Step.{Computed, Gives, Way, computed, gone, way, with_phis, entered, after_effect, instr_at, carried_out, step}
 use Rattle.ir_model.specs.Shapes.{entry}
 use Rattle.ir_meaning.specs.Run.{with_args, start}
 use Rattle.ir_meaning.specs.Stands.{Seen, Stands, register}
@@ -24,6 +25,13 @@ module _ (m : Seen) (s : State) (h : Stands m s) where
   -- the registers are those of the state
   same_registers : register m.registers ≡ s.registers
   same_registers = fun_ext h.registers
+
+  -- what is computed from them, and where a terminator leads
+  pub same_computed : (n : ℕ) (op : Op) (what : Computed) → computed (register m.registers) n op ≡ what → computed s.registers n op ≡ what
+  same_computed n op what e = rw (← same_registers) e
+
+  pub same_way : (n : ℕ) (op : Op) (what : Way) → way (register m.registers) n op ≡ what → way s.registers n op ≡ what
+  same_way n op what e = rw (← same_registers) e
 
   -- the end of a run
   pub stands_ended : (how : Phase) → Stands (record m { phase = how }) (ended how s)
@@ -38,14 +46,14 @@ module _ (m : Seen) (s : State) (h : Stands m s) where
   }
 
   -- a result that is set
-  pub stands_given : (target : Option ValueId) (x : Value) (registers : List (Option Value)) → register registers ≡ set (register m.registers) target x → Stands (record m { place = m.place + 1; registers = registers }) (record s { place = s.place + 1; registers = set s.registers target x })
+  pub stands_given : (target : Option ValueId) (x : Value) (registers : List (Option Value)) → register registers ≡ set (register m.registers) target x → Stands (record m { place = m.place + 1; registers = registers }) (after_effect target s (gone s (Gives x)))
   stands_given target x registers e = record {
     block = h.block;
     place = ap (λ k. k + 1) h.place;
     previous = h.previous;
     registers = λ v. ap (λ (r : Registers). r v) (e ∙ ap (λ (r : Registers). set r target x) same_registers);
     memory = h.memory;
-    events = h.events;
+    events = h.events ∙ ap (λ (events : List Event). min (length events) (2 ^ 64 - 1)) (sym (append-nil s.events));
     phase = h.phase;
   }
 
@@ -77,16 +85,8 @@ module _ (m : Seen) (s : State) (h : Stands m s) where
             phase = h.phase;
           })
 
--- what is carried out in the state is what the machine finds
-pub carried : (f : Function) (n : ℕ) (m : Seen) (s : State) → Stands m s → (block : Block) (instr : Instr) (what : Effect) → block_of f m.block ≡ Some block → slice_get block.instrs m.place ≡ Some instr → effect (register m.registers) n instr.op ≡ what → carried_out f n s (instr_at f s) ≡ after_effect f n instr.result s what
-carried f n m s h block instr what found at does =
-    let there : block_of f s.block ≡ Some block = rw (← h.block) found in
-    let here : slice_get block.instrs s.place ≡ Some instr = rw (← h.place) at in
-    let same : effect s.registers n instr.op ≡ what = rw (← same_registers m s h) does in
-    rw (there, here, same) refl
-
 -- a step of a machine that goes on
-pub stands_stepped : (f : Function) (choice : Choice) (m after : Seen) (s : State) → Stands m s → is_running m.phase ≡ true → Stands after (carried_out f (chosen choice) s (instr_at f s)) → Stands after (step f choice s)
+pub stands_stepped : (f : Function) (choice : Choice) (m after : Seen) (s : State) → Stands m s → is_running m.phase ≡ true → Stands after (carried_out f choice s (instr_at f s)) → Stands after (step f choice s)
 unfolding step
 stands_stepped f choice m after s h running stands =
     let goes_on : is_running s.phase ≡ true = rw (← h.phase) running in

@@ -9,8 +9,8 @@ use Rattle.ir_memory.specs.Memory.{Memory}
 use Rattle.ir_meaning.specs.declared.value.Value.{Value}
 use Rattle.ir_meaning.specs.declared.phase.Phase.{Phase}
 use Rattle.ir_meaning.specs.declared.phase.Phase.TheVariants as phase
+use Rattle.ir_meaning.specs.declared.choice.Choice.{Choice}
 use Rattle.ir_meaning.specs.State.{State, Event}
-use Rattle.ir_meaning.specs.Operands.{chosen}
 use Rattle.ir_model.specs.Shapes.{block_of}
 use Rattle.ir_model.specs.Shapes.{entry}
 use Rattle.ir_meaning.specs.Run.{start, after}
@@ -55,11 +55,11 @@ all_common f [] all = refl
 all_common f (b ∷ trail) all =
     cond-true (is_some (block_of f b)) (b ∷ common f trail) (common f trail) all.0 ∙ ap (λ (t : List ℕ). b ∷ t) (all_common f trail all.1)
 
-trail_in : (f : Function) (n : ℕ) (s t : State) → Stepped f n s t → InFunction f s.trail → InFunction f t.trail
-trail_in f n s t (stays e) all = rw e all
-trail_in f n s t (ends how e) all = rw e all
-trail_in f n s t (goes_on instr x at gives e) all = rw e all
-trail_in f n s t (enters instr b block registers at leads found phis e) all = rw e (rw found refl, all)
+trail_in : (f : Function) (choice : Choice) (s t : State) → Stepped f choice s t → InFunction f s.trail → InFunction f t.trail
+trail_in f choice s t (stays e) all = rw e all
+trail_in f choice s t (ends how e) all = rw e all
+trail_in f choice s t (goes_on instr x memory events at other goes e) all = rw e all
+trail_in f choice s t (enters instr b block registers at last leads found phis e) all = rw e (rw found refl, all)
 
 entry_in : (f : Function) (blocks : List Block) → blocks ≢ [] → is_some (find (λ block. block.id.0 == entry blocks) blocks) ≡ true
 entry_in f [] some = absurd (some refl)
@@ -88,7 +88,7 @@ refines_itself f some =
     record {
       params = refl;
       runs = λ args memory fit choices.
-          let all = after_keeps f (λ (s : State). InFunction f s.trail) (λ choice s t stepped kept. trail_in f (chosen choice) s t stepped kept) (start f args memory) choices (entry_in f f.blocks some, tt) in
+          let all = after_keeps f (λ (s : State). InFunction f s.trail) (trail_in f) (start f args memory) choices (entry_in f f.blocks some, tt) in
           (choices, inl (outdoes_same f (after f (start f args memory) choices) all));
       added = jumps_back f;
     }

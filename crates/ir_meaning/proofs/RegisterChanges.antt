@@ -8,21 +8,37 @@ use Rattle.scev_base.specs.declared.ids.ValueId.{ValueId}
 use Rattle.ir_model.specs.declared.function.Instr.{Instr}
 use Rattle.ir_model.specs.declared.function.Block.{Block}
 use Rattle.ir_model.specs.declared.function.Function.{Function}
-use Rattle.ir_meaning.specs.declared.value.Value.{Value}
-use Rattle.ir_meaning.specs.State.{Registers, set, State}
 use Rattle.ir_model.specs.Shapes.{block_of, leading_phis}
-use Rattle.ir_meaning.specs.Step.{Gives, effect, instr_at, phi_value, with_phis}
+use Rattle.ir_memory.specs.Memory.{Memory}
+use Rattle.ir_meaning.specs.declared.value.Value.{Value}
+use Rattle.ir_meaning.specs.declared.choice.Choice.{Choice}
+use Rattle.ir_meaning.specs.State.{Registers, set, Event, State}
+use Rattle.ir_meaning.specs.Operands.{chosen}
+use Rattle.ir_meaning.specs.Step.{Computed, Gives, Fails, Goes, effect, gone, instr_at, phi_value, with_phis, with_given}
 use Rattle.ir_meaning.specs.Run.{GivesTo}
 use Rattle.ir_meaning.proofs.StepShape.{Stepped, stays, ends, goes_on, enters}
 
-pub set_same : (registers : Registers) (result : Option ValueId) (x : Value) (v : ℕ) → result ≡ Some (record { 0 = v }) → set registers result x v ≡ Some x
+set_same : (registers : Registers) (result : Option ValueId) (x : Value) (v : ℕ) → result ≡ Some (record { 0 = v }) → set registers result x v ≡ Some x
 set_same registers result x v is =
     rw is (cond-true (v == v) (Some x) (registers v) (eq-eqb v v refl))
 
-pub set_other : (registers : Registers) (result : Option ValueId) (x : Value) (v : ℕ) → (result ≡ Some (record { 0 = v }) → ⊥) → set registers result x v ≡ registers v
+set_other : (registers : Registers) (result : Option ValueId) (x : Value) (v : ℕ) → (result ≡ Some (record { 0 = v }) → ⊥) → set registers result x v ≡ registers v
 set_other registers None x v other = refl
 set_other registers (Some w) x v other =
     cond-false (v == w.0) (Some x) (registers v) (ne_eqb v w.0 (λ e. other (rw e)))
+
+-- and so with what an instruction gives, if anything
+pub given_same : (registers : Registers) (result : Option ValueId) (x : Option Value) (y : Value) (v : ℕ) → x ≡ Some y → result ≡ Some (record { 0 = v }) → with_given registers result x v ≡ Some y
+given_same registers result x y v gives is = rw gives (set_same registers result y v is)
+
+pub given_other : (registers : Registers) (result : Option ValueId) (x : Option Value) (v : ℕ) → (result ≡ Some (record { 0 = v }) → ⊥) → with_given registers result x v ≡ registers v
+given_other registers result None v other = refl
+given_other registers result (Some x) v other = set_other registers result x v other
+
+-- what is computed goes on with its value
+pub gone_on : (s : State) (c : Computed) (x : Option Value) (memory : Memory) (events : List Event) → gone s c ≡ Goes x memory events → (y : Value) × (x ≡ Some y) × (c ≡ Gives y)
+gone_on s (Gives y) x memory events goes = (y, cc, refl)
+gone_on s (Fails how) x memory events goes = cc
 
 -- The register is the result of no instruction of the list.
 abbrev pub GivenByNone : List Instr → ℕ → Type 0
@@ -58,10 +74,10 @@ phis_at before n from (instr ∷ instrs) after registers v (suc k) phi at gives 
     phis_at before n from instrs (set after instr.result first.0) registers v k phi at gives (λ j other there gives'. suc_inj (alone (suc j) other there gives')) first.2
 
 -- How a step changes a register: not at all; by the instruction carried out; or by a phi of the block entered.
-pub data Changed (f : Function) (n : ℕ) (s t : State) (v : ℕ) : Type 0 where
-  unchanged : t.registers v ≡ s.registers v → Changed f n s t v
-  by_instr : (instr : Instr) (x : Value) → instr_at f s ≡ Some instr → GivesTo v instr → effect s.registers n instr.op ≡ Gives x → t.registers v ≡ Some x → Changed f n s t v
-  by_phi : (block : Block) (k : ℕ) (phi : Instr) → block_of f t.block ≡ Some block → slice_get (leading_phis block.instrs) k ≡ Some phi → GivesTo v phi → Changed f n s t v
+pub data Changed (f : Function) (choice : Choice) (s t : State) (v : ℕ) : Type 0 where
+  unchanged : t.registers v ≡ s.registers v → Changed f choice s t v
+  by_instr : (instr : Instr) (x : Value) (memory : Memory) (events : List Event) → instr_at f s ≡ Some instr → GivesTo v instr → effect choice s instr.op ≡ Goes (Some x) memory events → t.registers v ≡ Some x → Changed f choice s t v
+  by_phi : (block : Block) (k : ℕ) (phi : Instr) → block_of f t.block ≡ Some block → slice_get (leading_phis block.instrs) k ≡ Some phi → GivesTo v phi → Changed f choice s t v
 
 -- an instruction gives its result to the register, or not
 gives_or_not : (result : Option ValueId) (v : ℕ) → (result ≡ Some (record { 0 = v })) ⊎ (result ≡ Some (record { 0 = v }) → ⊥)
@@ -85,16 +101,17 @@ given_or_not (instr ∷ instrs) v = first (gives_or_not instr.result v) (given_o
     first (inr not) (inr none) = inr (none_more instr instrs v not none)
 
 -- each register is changed so by each step
-pub changed : (f : Function) (n : ℕ) (s t : State) (v : ℕ) → Stepped f n s t → Changed f n s t v
-changed f n s t v (stays e) = unchanged (rw e)
-changed f n s t v (ends how e) = unchanged (rw e)
-changed f n s t v (goes_on instr x at gives e) =
+pub changed : (f : Function) (choice : Choice) (s t : State) (v : ℕ) → Stepped f choice s t → Changed f choice s t v
+changed f choice s t v (stays e) = unchanged (rw e)
+changed f choice s t v (ends how e) = unchanged (rw e)
+changed f choice s t v (goes_on instr None memory events at other goes e) = unchanged (rw e)
+changed f choice s t v (goes_on instr (Some x) memory events at other goes e) =
     elim (gives_or_not instr.result v) [
-      | inl is ↦ by_instr instr x at is gives (rw e (set_same s.registers instr.result x v is))
+      | inl is ↦ by_instr instr x memory events at is goes (rw e (set_same s.registers instr.result x v is))
       | inr not ↦ unchanged (rw e (set_other s.registers instr.result x v not))
     ]
-changed f n s t v (enters instr b block registers at leads found phis e) =
+changed f choice s t v (enters instr b block registers at last leads found phis e) =
     elim (given_or_not (leading_phis block.instrs) v) [
       | inl is ↦ by_phi block is.0 is.1 (rw e found) is.2 is.3
-      | inr none ↦ unchanged (rw e (phis_other s.registers n s.block (leading_phis block.instrs) s.registers registers v none phis))
+      | inr none ↦ unchanged (rw e (phis_other s.registers (chosen choice) s.block (leading_phis block.instrs) s.registers registers v none phis))
     ]

@@ -37,7 +37,7 @@ pub record HasRun (f : Function) (first m : Seen) (made : ℕ) : Type 0 where
 pub none_made : (f : Function) (m : Seen) → HasRun f m m 0
 none_made f m = record { exact = λ s h. h; running = λ s h. below_none _ }
 
-pub one_made : (f : Function) (first m next : Seen) (made : ℕ) → HasRun f first m made → is_running m.phase ≡ true → ((s : State) → Stands m s → Stands next (carried_out f 0 s (instr_at f s))) → HasRun f first next (made + 1)
+pub one_made : (f : Function) (first m next : Seen) (made : ℕ) → HasRun f first m made → is_running m.phase ≡ true → ((s : State) → Stands m s → Stands next (carried_out f (choice.Number 0) s (instr_at f s))) → HasRun f first next (made + 1)
 one_made f first m next made before goes_on exact =
     record {
       exact = λ s h.

@@ -1,6 +1,7 @@
 -- How the trail of a state goes with its block and the block before.
 use Rattle.std.specs.Prelude.{◌≡◌, ℕ, List, [], ◌∷◌, Option, Some, None, refl}
 use Rattle.ir_model.specs.declared.function.Function.{Function}
+use Rattle.ir_meaning.specs.declared.choice.Choice.{Choice}
 use Rattle.ir_meaning.specs.State.{State}
 use Rattle.ir_meaning.specs.Run.{start, Run, last}
 use Rattle.ir_meaning.proofs.StepShape.{Stepped, stays, ends, goes_on, enters}
@@ -21,13 +22,13 @@ follows_more [] b previous next h = absurd h
 follows_more (newest ∷ []) b previous next h = (refl, rw h.0)
 follows_more (newest ∷ second ∷ older) b previous next h = (refl, rw h.0)
 
-pub trail_kept : (f : Function) (n : ℕ) (s t : State) → Stepped f n s t → HasTrail s → HasTrail t
-trail_kept f n s t (stays e) h = rw e h
-trail_kept f n s t (ends how e) h = rw e h
-trail_kept f n s t (goes_on instr x at gives e) h = rw e h
-trail_kept f n s t (enters instr b block registers at leads found phis e) h =
+pub trail_kept : (f : Function) (choice : Choice) (s t : State) → Stepped f choice s t → HasTrail s → HasTrail t
+trail_kept f choice s t (stays e) h = rw e h
+trail_kept f choice s t (ends how e) h = rw e h
+trail_kept f choice s t (goes_on instr x memory events at other goes e) h = rw e h
+trail_kept f choice s t (enters instr b block registers at last leads found phis e) h =
     rw e (follows_more s.trail s.block s.previous b h)
 
 pub trail_of_run : (f : Function) (r : Run f) → HasTrail (last f r)
 trail_of_run f r =
-    after_keeps f HasTrail (λ choice s t stepped h. trail_kept f _ s t stepped h) (start f r.args r.memory) r.choices (refl, refl)
+    after_keeps f HasTrail (trail_kept f) (start f r.args r.memory) r.choices (refl, refl)

@@ -140,12 +140,11 @@ impl Machine {
             → (k : ℕ) → k < made → (after f.now s (zeros k)).phase ≡ Phase.Running) }
     {
         let mut block = block_of(f, self.block);
-        let choice = Choice::Number(0);
         for made in 0..steps {
             if !self.phase.is_running() {
                 return Ok(made);
             }
-            block = self.carry_out(f, block, &choice);
+            block = self.carry_out(f, block, &Choice::Number(0));
         }
         Ok(steps)
     }

@@ -3,12 +3,10 @@ use Rattle.std.specs.Prelude.{◌≡◌, ℕ, ◌==◌, List, [], ◌∷◌, map
 use Rattle.std.proofs.Common.{arith, inl, inr, sym, subst, ◌∙◌}
 use Rattle.std.proofs.lemmas.List.Elements.{Contains-append_right}
 use Rattle.scev_base.specs.Residue.{residue}
-use Rattle.scev_base.specs.declared.pred.Pred.TheVariants as pred
-use Rattle.ir_model.specs.declared.types.IrType.TheVariants.{Int, Ptr}
-use Rattle.ir_model.specs.declared.op.TypedOperand.{TypedOperand}
+use Rattle.ir_model.specs.declared.types.IrType.TheVariants.{Int}
 use Rattle.ir_model.specs.declared.op.Case.{Case}
 use Rattle.ir_model.specs.declared.op.Op.{Op}
-use Rattle.ir_model.specs.declared.op.Op.TheVariants.{Binary, Icmp, Cast, Select, Jump, Branch, Switch, Ret}
+use Rattle.ir_model.specs.declared.op.Op.TheVariants.{Jump, Branch, Switch, Ret}
 use Rattle.ir_model.specs.declared.function.Instr.{Instr}
 use Rattle.ir_model.specs.declared.function.Block.{Block}
 use Rattle.ir_model.specs.declared.function.Function.{Function}
@@ -17,11 +15,9 @@ use Rattle.ir_meaning.specs.declared.value.Value.TheVariants as value
 use Rattle.ir_meaning.specs.declared.phase.Phase.TheVariants as phase
 use Rattle.ir_meaning.specs.State.{Registers, State}
 use Rattle.ir_meaning.specs.Operands.{operand_value}
-use Rattle.ir_meaning.specs.Rows.{on_numbers, compared, binary_row, converted, compared_pointers}
 use Rattle.ir_model.specs.Shapes.{block_of}
-use Rattle.ir_meaning.specs.Step.{Gives, Enters, Ends, branched, given, arm_value, chosen_arm, case_target, switched, effect, instr_at}
+use Rattle.ir_meaning.specs.Step.{Way, Enters, Leaves, by_value, branched, case_target, switched, way, instr_at}
 use Rattle.ir_meaning.proofs.ListPlaces.{contains_in_all}
-use Rattle.ir_meaning.proofs.ThinBlocks.{value_there, both_there, two_values_stay}
 use Rattle.ir_meaning.proofs.RegisterChanges.{from_and_then}
 use Rattle.ir_model.specs.Shapes.{targets}
 use Rattle.ir_model.specs.Walks.{Edge}
@@ -55,56 +51,27 @@ switch_names w cases other (value.Number x) b e = goes (target_named w cases oth
         Contains-append_right (other ∷ []) (map (λ (one : Case). one.to.0) cases) b (subst (λ (k : ℕ). Contains (map (λ (one : Case). one.to.0) cases) k) same h)
 switch_names w cases other _ b e = cc
 
--- what gives a value, or nothing where the behaviour is undefined, leads nowhere
-given_stays : (o : Option Value) (b : ℕ) → given o ≡ Enters b → ⊥
-given_stays None b e = cc
-given_stays (Some x) b e = cc
+-- where a way follows from an operand's value, the operand has one
+value_there : (o : Option Value) (what : Value → Way) (b : ℕ) → by_value o what ≡ Enters b → (x : Value) × (what x ≡ Enters b)
+value_there None what b e = cc
+value_there (Some x) what b e = (x, e)
 
--- so does an arm of a `select`
-arm_stays : (registers : Registers) (n : ℕ) (typed : TypedOperand) (b : ℕ) → arm_value registers n typed ≡ Enters b → ⊥
-arm_stays registers n typed b e =
-    let x = value_there (operand_value registers n typed.kind typed.value) Gives b e in
-    cc (x.1)
-
-arms_stay : (registers : Registers) (n : ℕ) (left right : TypedOperand) (b : ℕ) (test : Bool) → cond test (arm_value registers n right) (arm_value registers n left) ≡ Enters b → ⊥
-arms_stay registers n left right b true = arm_stays registers n right b
-arms_stay registers n left right b false = arm_stays registers n left b
-
-select_stays : (registers : Registers) (n : ℕ) (left right : TypedOperand) (c : Value) (b : ℕ) → chosen_arm registers n left right c ≡ Enters b → ⊥
-select_stays registers n left right (value.Number c) b e = arms_stay registers n left right b (c == 0) e
-select_stays registers n left right _ b e = cc
-
--- an instruction that leads to a block names it
-pub entering_names : (registers : Registers) (n : ℕ) (op : Op) (b : ℕ) → effect registers n op ≡ Enters b → Contains (targets op) b
-entering_names registers n (Jump to) b e = (0, omega arith, cc)
-entering_names registers n (Branch test there else_there) b e =
+-- a terminator that leads to a block names it
+way_names : (registers : Registers) (n : ℕ) (op : Op) (b : ℕ) → way registers n op ≡ Enters b → Contains (targets op) b
+way_names registers n (Jump to) b e = (0, omega arith, cc)
+way_names registers n (Branch test there else_there) b e =
     let x = value_there (operand_value registers n (Int 1) test) (λ (c : Value). branched c there.0 else_there.0) b e in
     branch_names x.0 there.0 else_there.0 b x.1
-entering_names registers n (Switch (Int w) operand other cases) b e =
+way_names registers n (Switch (Int w) operand other cases) b e =
     let x = value_there (operand_value registers n (Int w) operand) (λ (x : Value). switched w cases other.0 x) b e in
     switch_names w cases other.0 x.0 b x.1
-entering_names registers n (Binary op nuw nsw exact disjoint (Int w) left right) b e =
-    let both = both_there (operand_value registers n (Int w) left) (operand_value registers n (Int w) right) (λ (x y : Value). given (binary_row op nuw nsw exact disjoint w x y)) b e in
-    absurd (given_stays (binary_row op nuw nsw exact disjoint w both.0 both.1) b both.2)
-entering_names registers n (Icmp pred (Int w) left right) b e =
-    absurd (two_values_stay (operand_value registers n (Int w) left) (operand_value registers n (Int w) right) (on_numbers (compared pred w)) b e)
-entering_names registers n (Icmp pred.Eq Ptr left right) b e =
-    absurd (two_values_stay (operand_value registers n Ptr left) (operand_value registers n Ptr right) (compared_pointers true n) b e)
-entering_names registers n (Icmp pred.Ne Ptr left right) b e =
-    absurd (two_values_stay (operand_value registers n Ptr left) (operand_value registers n Ptr right) (compared_pointers false n) b e)
-entering_names registers n (Cast op nneg (Int v) operand (Int w)) b e =
-    let x = value_there (operand_value registers n (Int v) operand) (λ (x : Value). Gives (converted op nneg v w x)) b e in
+way_names registers n (Ret (Some typed)) b e =
+    let x = value_there (operand_value registers n typed.kind typed.value) (λ (x : Value). Leaves (phase.Returned (Some x))) b e in
     cc (x.1)
-entering_names registers n (Select test left right) b e =
-    let c = value_there (operand_value registers n (Int 1) test) (λ (c : Value). chosen_arm registers n left right c) b e in
-    absurd (select_stays registers n left right c.0 b c.1)
-entering_names registers n (Ret (Some typed)) b e =
-    let x = value_there (operand_value registers n typed.kind typed.value) (λ (x : Value). Ends (phase.Returned (Some x))) b e in
-    cc (x.1)
-entering_names registers n _ b e = cc
+way_names registers n _ b e = cc
 
--- so there is an edge to it from the block in which the instruction stands
-pub edge_of_entering : (f : Function) (n : ℕ) (s : State) (instr : Instr) (b : ℕ) → instr_at f s ≡ Some instr → effect s.registers n instr.op ≡ Enters b → Edge f s.block b
+-- so there is an edge to it from the block in which the terminator stands
+pub edge_of_entering : (f : Function) (n : ℕ) (s : State) (instr : Instr) (b : ℕ) → instr_at f s ≡ Some instr → way s.registers n instr.op ≡ Enters b → Edge f s.block b
 edge_of_entering f n s instr b at leads =
     let there = from_and_then (block_of f s.block) (λ (block : Block). slice_get block.instrs s.place) instr at in
-    (there.0, there.1, contains_in_all (λ (one : Instr). targets one.op) there.0.instrs s.place instr b there.2 (entering_names s.registers n instr.op b leads))
+    (there.0, there.1, contains_in_all (λ (one : Instr). targets one.op) there.0.instrs s.place instr b there.2 (way_names s.registers n instr.op b leads))
