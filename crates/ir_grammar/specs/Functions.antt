@@ -3,9 +3,7 @@ use Rattle.std.specs.Prelude.{◌≡◌, ◌≢◌, ℕ, Bool, true, false, ◌|
 use Rattle.std.specs.List.{starts_with}
 use Rattle.scev_base.specs.declared.ids.ValueId.{ValueId}
 use Rattle.ir_model.specs.declared.types.IrType.{IrType}
-use Rattle.ir_model.specs.declared.types.IrType.TheVariants.{Void}
 use Rattle.ir_model.specs.declared.op.Op.{Op}
-use Rattle.ir_model.specs.declared.op.Op.TheVariants.{Store, Call, Jump, Branch, Switch, Ret, Unreachable}
 use Rattle.ir_model.specs.declared.function.Param.{Param}
 use Rattle.ir_model.specs.declared.function.Instr.{Instr}
 use Rattle.ir_model.specs.declared.function.Block.{Block}
