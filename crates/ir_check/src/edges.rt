@@ -88,4 +88,3 @@ fn late_in(b: BlockId, instrs: &[Instr]) -> Option<Place>
     }
     None
 }
-
