@@ -1,4 +1,4 @@
-//! Worked examples of the meaning as tables of tests: memory, runs of a machine, loops of one block, and which
+//! Worked examples of the meaning as tables of tests: memory, runs of a machine, minima, loops of one block, and which
 //! phi is which recurrence.
 #![tactic(auto)]
 
@@ -11,6 +11,8 @@ mod build;
 mod loops;
 #[cfg(test)]
 mod memory;
+#[cfg(test)]
+mod minima;
 #[cfg(test)]
 mod phis;
 #[cfg(test)]
