@@ -86,7 +86,7 @@ one_more signatures items i number here f within is body accepted so =
     ∙ ap (λ fs. before items i ++ fs) body in
     record {
       count = let long = length-append (before items i) (f ∷ []) in let count = so.count in
-      let all = ap length more in omega arith;
+          let all = ap length more in omega arith;
       few = let few = so.few in omega arith;
       each = λ k g at. elim (got_push (before items i) f g k (ap (λ fs. slice_get fs k) (sym more) ∙ at)) [
         | inl there ↦ so.each k g there
@@ -115,10 +115,10 @@ next_broken m i number here f rule place within is body items broken so =
       items = items;
       function = f;
       at = ap (slice_get (functions_of m)) so.count ∙ (ap (λ gs. slice_get gs (length fs)) all
-      ∙ slice_get-append (fs ++ f ∷ []) rest (length fs) f (slice_get_push fs f));
+          ∙ slice_get-append (fs ++ f ∷ []) rest (length fs) f (slice_get_push fs f));
       broken = broken;
       first = λ k g less at. so.each k g (got_left fs (f ∷ rest) g k (let count = so.count in omega arith)
-      (ap (λ gs. slice_get gs k) (sym (all ∙ append_assoc fs (f ∷ []) rest)) ∙ at));
+          (ap (λ gs. slice_get gs k) (sym (all ∙ append_assoc fs (f ∷ []) rest)) ∙ at));
     })
 
 -- ---- a function by its number

@@ -96,12 +96,12 @@ blocks_once before (block ∷ blocks) none =
     let behind = λ (b : ℕ) (new : IsNewBlock more.all b). more.new (BlockAt (record { 0 = b })) new in
     record {
       new = All-cons (IsNewBlock before) id (ids blocks) here.0
-      (All-weaker (IsNewBlock more.all) (IsNewBlock before) (λ b new. new_before before id b (behind b new)) (ids blocks)
-      others.new);
+          (All-weaker (IsNewBlock more.all) (IsNewBlock before) (λ b new. new_before before id b (behind b new)) (ids blocks)
+          others.new);
       apart = AllPairs-cons (λ a b. a ≢ b) id (ids blocks)
-      (All-weaker (IsNewBlock more.all) (λ b. id ≢ b) (λ b new. other_block before id b (behind b new)) (ids blocks)
-      others.new)
-      others.apart;
+          (All-weaker (IsNewBlock more.all) (λ b. id ≢ b) (λ b new. other_block before id b (behind b new)) (ids blocks)
+          others.new)
+          others.apart;
     }
 
 -- ---- a function

@@ -49,7 +49,7 @@ one_broken signatures f rule other place at (inr uses_) (inl shape) = absurd (so
 one_broken signatures f rule other place at (inr a) (inr b) = (
   a.1 ∙ sym b.1,
   a.4 ∙ (ap (λ (use_ : Use). UseIn (record { 0 = use_.value }) (record { 0 = use_.user }))
-  (one_use f a.2 b.2 a.3 b.3) ∙ sym b.4),
+      (one_use f a.2 b.2 a.3 b.3) ∙ sym b.4),
 )
 
 -- A function that is accepted breaks none.
