@@ -1,8 +1,9 @@
 -- The functions of a module, as its items are walked over.
-use Rattle.std.proofs.Common.{◌≡◌, ℕ, zero, suc, ◌+◌, ◌<◌, ◌≤◌, ◌≢◌, ◌⊎◌, List, [], ◌∷◌, ◌++◌, length, take, drop, flat_map, Option, Some, None, slice_get, get_or, refl, sym, ap, ◌∙◌, inl, inr, arith, subst}
-use Rattle.std.proofs.lemmas.List.{take_more, take_all, take-append-drop, drop_more, drop_all, append_assoc, append-nil, length-append}
+use Rattle.std.proofs.Common.{◌≡◌, ℕ, zero, suc, ◌+◌, ◌<◌, ◌≤◌, ◌⊎◌, List, [], ◌∷◌, ◌++◌, length, take, drop, flat_map, Some, None, slice_get, get_or, refl, sym, ap, ◌∙◌, inl, inr, arith, subst}
+use Rattle.std.specs.List.{All}
+use Rattle.std.proofs.lemmas.List.{take_more, take_all, take-append-drop, append_assoc, append-nil, length-append}
 use Rattle.std.proofs.lemmas.Grind.{flat_map-append}
-use Rattle.std.proofs.lemmas.List.Elements.{All-get_or}
+use Rattle.std.proofs.lemmas.List.Elements.{All-head, All-tail}
 use Rattle.flow_graph.proofs.ListLemmas.{slice_get_push, slice_get-append}
 use Rattle.ir_model.specs.declared.function.Function.{Function}
 use Rattle.ir_model.specs.declared.item.Item.{Item}
@@ -12,9 +13,9 @@ use Rattle.ir_model.specs.declared.rule.Rule.{Rule}
 use Rattle.ir_model.specs.declared.rule.Place.{Place}
 use Rattle.ir_model.specs.declared.signature.Signatures.{Signatures}
 use Rattle.ir_model.specs.Places.{signatures_of}
-use Rattle.ir_model.specs.WellMade.{HasIds, ItemHasIds, HaveIds, IsWellMadeItem, AreWellMade}
+use Rattle.ir_model.specs.WellMade.{HasIds, ItemHasIds, HaveIds}
 use Rattle.ir_rules.specs.Rules.{first_item_broken}
-use Rattle.ir_rules.specs.Accepted.{body_of, functions_of, IsAccepted, IsBrokenAt, IsAcceptedModule, IsFunctionFault, IsFault}
+use Rattle.ir_rules.specs.Accepted.{body_of, functions_of, IsAccepted, IsBrokenAt, IsAcceptedModule, IsFault}
 
 -- ---- lists
 
@@ -95,22 +96,23 @@ one_more signatures items i number here f within is body accepted so =
     }
 
 -- All items are walked over.
-pub all_accepted : (m : Module) (i number : ℕ) → length m.items ≤ i → first_item_broken m ≡ None
-    → AreAccepted (signatures_of m) m.items i number → IsAcceptedModule m
-all_accepted m i number past items so =
-    let all : functions_of m ≡ before m.items i = ap (flat_map body_of) (sym (take_all i m.items past)) in
+pub all_accepted : (m : Module) (xs : List Item) (i number : ℕ) → xs ≡ m.items → length xs ≤ i
+    → first_item_broken m ≡ None → AreAccepted (signatures_of m) xs i number → IsAcceptedModule m
+all_accepted m xs i number same past items so =
+    let all : functions_of m ≡ before xs i = ap (flat_map body_of) (sym same ∙ sym (take_all i xs past)) in
     record { items = items; functions = λ k f at. so.each k f (ap (λ fs. slice_get fs k) (sym all) ∙ at) }
 
 -- The function that follows breaks a rule.
-pub next_broken : (m : Module) (i number : ℕ) (here : Item) (f : Function) (rule : Rule) (place : Place)
-    → i < length m.items → here ≡ get_or m.items i here → body_of here ≡ f ∷ [] → first_item_broken m ≡ None
-    → IsBrokenAt (signatures_of m) f rule place → AreAccepted (signatures_of m) m.items i number
-    → IsFault m rule number place
-next_broken m i number here f rule place within is body items broken so =
-    let fs = before m.items i in
-    let rest = behind m.items (i + 1) in
-    let all : functions_of m ≡ (fs ++ f ∷ []) ++ rest = sym (both_parts m.items (i + 1))
-    ∙ ap (λ gs. gs ++ rest) (before_more m.items i here within is ∙ ap (λ gs. fs ++ gs) body) in
+pub next_broken : (m : Module) (xs : List Item) (i number : ℕ) (here : Item) (f : Function) (rule : Rule)
+    (place : Place) → xs ≡ m.items → i < length xs → here ≡ get_or xs i here → body_of here ≡ f ∷ []
+    → first_item_broken m ≡ None → IsBrokenAt (signatures_of m) f rule place
+    → AreAccepted (signatures_of m) xs i number → IsFault m rule number place
+next_broken m xs i number here f rule place same within is body items broken so =
+    let fs = before xs i in
+    let rest = behind xs (i + 1) in
+    let all : functions_of m ≡ (fs ++ f ∷ []) ++ rest = ap (flat_map body_of) (sym same)
+    ∙ (sym (both_parts xs (i + 1))
+    ∙ ap (λ gs. gs ++ rest) (before_more xs i here within is ∙ ap (λ gs. fs ++ gs) body)) in
     inr (record {
       items = items;
       function = f;
@@ -121,57 +123,18 @@ next_broken m i number here f rule place within is body items broken so =
           (ap (λ gs. slice_get gs k) (sym (all ∙ append_assoc fs (f ∷ []) rest)) ∙ at));
     })
 
--- ---- a function by its number
+-- ---- ids
 
-behind_more : (items : List Item) (i : ℕ) (here : Item) → i < length items → here ≡ get_or items i here
-    → behind items i ≡ body_of here ++ behind items (i + 1)
-behind_more items i here within is = ap (flat_map body_of) (drop_more items i here within)
-    ∙ ap (λ x. body_of x ++ behind items (i + 1)) (sym is)
+ids_in : (items : List Item) (k : ℕ) (f : Function) → All ItemHasIds items
+    → slice_get (flat_map body_of items) k ≡ Some f → HasIds f
+ids_in [] k f ids at = absurd (cc)
+ids_in (item.Define g ∷ items) zero f ids at =
+    let same : g ≡ f = cc in subst HasIds same (All-head ItemHasIds (item.Define g) items ids)
+ids_in (item.Define g ∷ items) (suc k) f ids at =
+    ids_in items k f (All-tail ItemHasIds (item.Define g) items ids) at
+ids_in (here ∷ items) k f ids at = ids_in items k f (All-tail ItemHasIds here items ids) at
 
--- The function that follows is the first one left.
-pub first_left : (items : List Item) (i : ℕ) (here : Item) (f : Function) → i < length items
-    → here ≡ get_or items i here → body_of here ≡ f ∷ [] → slice_get (behind items i) 0 ≡ Some f
-first_left items i here f within is body =
-    ap (λ fs. slice_get fs 0) (behind_more items i here within is ∙ ap (λ fs. fs ++ behind items (i + 1)) body)
-
-pub later_left : (items : List Item) (i left : ℕ) (here : Item) (f : Function) → i < length items
-    → here ≡ get_or items i here → body_of here ≡ f ∷ []
-    → slice_get (behind items i) (suc left) ≡ slice_get (behind items (i + 1)) left
-later_left items i left here f within is body =
-    ap (λ fs. slice_get fs (suc left)) (behind_more items i here within is ∙ ap (λ fs. fs ++ behind items (i + 1)) body)
-
-pub same_left : (items : List Item) (i left : ℕ) (here : Item) → i < length items
-    → here ≡ get_or items i here → body_of here ≡ []
-    → slice_get (behind items i) left ≡ slice_get (behind items (i + 1)) left
-same_left items i left here within is body =
-    ap (λ fs. slice_get fs left) (behind_more items i here within is ∙ ap (λ fs. fs ++ behind items (i + 1)) body)
-
-pub none_left : (items : List Item) (i left : ℕ) → length items ≤ i → slice_get (behind items i) left ≡ None
-none_left items i left past = ap (λ rest. slice_get (flat_map body_of rest) left) (drop_all i items past)
-
--- ---- the items of a module
-
--- A function with a body has ids in its tables, and a block.
-pub ids_at : (m : Module) (i : ℕ) (here : Item) (f : Function) → HaveIds m → i < length m.items
-    → here ≡ get_or m.items i here → body_of here ≡ f ∷ [] → HasIds f
+-- Each function of a module has its ids in its tables.
+pub ids_of : (m : Module) (k : ℕ) (f : Function) → HaveIds m → slice_get (functions_of m) k ≡ Some f → HasIds f
 unfolding HaveIds
-ids_at m i here f ids within is body =
-    ids_of here f body (subst ItemHasIds (sym is) (All-get_or ItemHasIds m.items i here within ids))
-  where
-    ids_of : (here : Item) (f : Function) → body_of here ≡ f ∷ [] → ItemHasIds here → HasIds f
-    ids_of (item.Define g) f body ids = let same : g ≡ f = cc in subst HasIds same ids
-    ids_of (item.PassedOn t) f body ids = cc
-    ids_of (item.Global g) f body ids = cc
-    ids_of (item.Declare d) f body ids = cc
-
-pub block_at : (m : Module) (i : ℕ) (here : Item) (f : Function) → AreWellMade m → i < length m.items
-    → here ≡ get_or m.items i here → body_of here ≡ f ∷ [] → f.blocks ≢ []
-block_at m i here f made within is body =
-    block_of here f body (subst IsWellMadeItem (sym is) (All-get_or IsWellMadeItem m.items i here within made))
-  where
-    block_of : (here : Item) (f : Function) → body_of here ≡ f ∷ [] → IsWellMadeItem here → f.blocks ≢ []
-    block_of (item.Define g) f body made =
-        let same : g ≡ f = cc in subst (λ h. h.blocks ≢ []) same made.some_block
-    block_of (item.PassedOn t) f body made = cc
-    block_of (item.Global g) f body made = cc
-    block_of (item.Declare d) f body made = cc
+ids_of m k f ids at = ids_in m.items k f ids at

@@ -1,5 +1,5 @@
 -- A module is refused at one rule at most, in one function and at one place; and one that is accepted at none.
-use Rattle.std.proofs.Common.{◌≡◌, ℕ, ◌<◌, Some, None, Option, slice_get, sym, ap, ◌∙◌, inl, inr, subst}
+use Rattle.std.proofs.Common.{◌≡◌, ℕ, Some, None, Option, slice_get, sym, ap, ◌∙◌, inl, inr, subst}
 use Rattle.std.proofs.lemmas.Bool.{cases_order}
 use Rattle.ir_model.specs.declared.function.Function.{Function}
 use Rattle.ir_model.specs.declared.item.Module.{Module}
@@ -10,7 +10,7 @@ use Rattle.ir_model.specs.declared.rule.Place.TheVariants.{UseIn}
 use Rattle.ir_model.specs.Places.{signatures_of}
 use Rattle.ir_rules.specs.Uses.{Use, uses, IsFirstBroken}
 use Rattle.ir_rules.specs.Rules.{first_broken, first_item_broken}
-use Rattle.ir_rules.specs.Accepted.{IsAccepted, IsBrokenAt, functions_of, IsAcceptedModule, IsFunctionFault, IsFault}
+use Rattle.ir_rules.specs.Accepted.{IsAccepted, IsBrokenAt, functions_of, IsAcceptedModule, IsFault}
 
 -- What is some isn't none.
 some_none : {A : Type 0} {o : Option A} {x : A} → o ≡ Some x → o ≡ None → ⊥
