@@ -3,12 +3,8 @@
 ghost use Rattle.std.specs.Prelude.{◌≡◌, ◌≢◌, [], ◌∷◌, Ok, None, IfOk, IfSome, unwrap_or};
 ghost use Rattle.std.specs.Option.{option_copied, option_map};
 ghost use Rattle.ir_model.specs.WellMade.{HasIds, HaveIds, AreWellMade};
-ghost use Rattle.ir_model.specs.declared.rule.Rule.{Rule as AnyRule};
-ghost use Rattle.ir_model.specs.declared.rule.Place.{Place as AnyPlace};
-ghost use Rattle.ir_rules.specs.Rules.{first_broken};
-ghost use Rattle.ir_rules.specs.Uses.{Use, UsesAreDefined, IsFirstBroken};
-ghost use Rattle.ir_rules.specs.Accepted as accepted;
-ghost use Rattle.ir_rules.specs.Accepted.{IsAccepted, IsBrokenAt, IsAcceptedModule, IsFault};
+ghost use Rattle.ir_rules.specs.Rules.{first_broken, first_item_broken};
+ghost use Rattle.ir_rules.specs.Accepted.{body_of, IsAccepted, IsBrokenAt, IsAcceptedModule, IsFault};
 
 use flow_graph::Flow;
 use ir_check::{Callees, Ill, check_function, check_module};
@@ -40,12 +36,21 @@ pub fn first_fault(alloc: Global, m: &Module) -> Result<Option<Fault>, AllocErro
 {
     match check_module(alloc, m) {
         Ok(()) => first_of_functions(alloc, m),
-        Err(Ill::Broken { rule, place }) => Ok(Some(Fault {
-            rule,
-            function: FuncId(0),
-            place,
-        })),
+        Err(Ill::Broken { rule, place }) => Ok(Some(of_items(rule, place))),
         Err(Ill::OutOfMemory) => Err(AllocError),
+    }
+}
+
+/// A rule that is broken outside functions.
+fn of_items(rule: Rule, place: Place) -> Fault
+    ensures rule { result.rule ≡ rule }
+    ensures number { result.function.0 ≡ 0 }
+    ensures place { result.place ≡ place }
+{
+    Fault {
+        rule,
+        function: FuncId(0),
+        place,
     }
 }
 
@@ -53,7 +58,7 @@ pub fn first_fault(alloc: Global, m: &Module) -> Result<Option<Fault>, AllocErro
 fn first_of_functions(alloc: Global, m: &Module) -> Result<Option<Fault>, AllocError>
     requires ids { HaveIds m.now }
     requires well_made { AreWellMade m.now }
-    requires items { accepted.first_item_broken m.now ≡ None }
+    requires items { first_item_broken m.now ≡ None }
     ensures accepted { result ≡ Ok None → IsAcceptedModule m.now }
     ensures refused { IfOk result (λ found. IfSome found
         (λ fault. IsFault m.now fault.rule fault.function.0 fault.place)) }
@@ -81,7 +86,7 @@ fn first_of_functions(alloc: Global, m: &Module) -> Result<Option<Fault>, AllocE
 
 /// The function that an item is, where it has a body.
 pub(crate) fn body_of(item: &Item) -> Option<&Function>
-    ensures { accepted.body_of item.now
+    ensures { body_of item.now
         ≡ unwrap_or (option_map (λ f. f ∷ []) (option_copied result)) [] }
 {
     match item {

@@ -3,7 +3,9 @@
 #![tactic(auto)]
 
 mod fault;
+mod laws;
 mod line;
 
 pub use fault::{Fault, first_fault};
+pub use laws::one_fault;
 pub use line::fault_line;

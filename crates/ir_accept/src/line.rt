@@ -29,19 +29,23 @@ pub fn fault_line(alloc: Global, m: &Module, fault: Fault) -> Result<Vec<u8>, Al
 }
 
 /// Appends the item at which a rule is broken, or the function and the place in it.
-fn push_where(
-    out: &mut Vec<u8>,
-    alloc: Global,
-    m: &Module,
-    fault: Fault,
-) -> Result<(), AllocError>
+fn push_where(out: &mut Vec<u8>, alloc: Global, m: &Module, fault: Fault) -> Result<(), AllocError>
     requires ids { HaveIds m.now }
     ensures { OnOk result (out.new.items
         ≡ out.old.items ++ where_text m.now fault.function.0 fault.place) }
 {
-    if let Place::Item(n) = fault.place {
-        return push_item(out, n);
+    match fault.place {
+        Place::Item(n) => push_item(out, n),
+        _ => push_inside(out, alloc, m, fault),
     }
+}
+
+/// Appends the function in which a rule is broken, and the place in it.
+fn push_inside(out: &mut Vec<u8>, alloc: Global, m: &Module, fault: Fault) -> Result<(), AllocError>
+    requires ids { HaveIds m.now }
+    ensures { OnOk result (out.new.items ≡ out.old.items
+        ++ within_text m.now.globals (slice_get (functions_of m.now) fault.function.0) fault.place) }
+{
     match function_at(m, fault.function.0) {
         Some(f) => push_within(out, alloc, m.globals.as_slice(), f, fault.place),
         None => Ok(()),
