@@ -1,1 +1,3 @@
+pub mod Members
+pub mod Passed
 pub mod Sound
