@@ -1,7 +1,7 @@
 -- What a walk of an accepted function has passed where a value is used, and which uses its instructions have.
-use Rattle.std.proofs.Common.{◌≡◌, ℕ, zero, suc, ◌+◌, ◌<◌, ◌⊎◌, Bool, true, false, List, [], ◌∷◌, map, flat_map, Option, Some, None, Contains, slice_get, refl, sym, ◌∙◌, inl, inr, subst, ap, arith}
+use Rattle.std.proofs.Common.{◌≡◌, ℕ, zero, suc, ◌+◌, ◌<◌, ◌==◌, ◌⊎◌, Bool, true, false, List, [], ◌∷◌, map, flat_map, Option, Some, None, Contains, slice_get, refl, sym, ◌∙◌, inl, inr, subst, ap, arith}
 use Rattle.std.proofs.lemmas.Bool.{cases_eq, cases_lt, both_ways, eqb-true, false≢true}
-use Rattle.std.proofs.lemmas.Option.{none-some, some_pair_parts}
+use Rattle.std.proofs.lemmas.Option.{none-some, same_Some, some_pair_parts}
 use Rattle.std.proofs.lemmas.List.Elements.{Contains-append_left, Contains-append_right}
 use Rattle.scev_base.specs.declared.ids.BlockId.{BlockId}
 use Rattle.ir_model.specs.declared.types.IrType.{IrType}
@@ -80,3 +80,75 @@ use_passed f defined use_ there before trail =
           let at = contained_at (uses f) use_ there in
           absurd (defined at.0 use_ at.1 (before, trail, not))
     ]
+
+-- ---- the uses of an instruction
+
+-- those of an instruction of a list, at its place
+uses_at : (f : Function) (b from : ℕ) (instrs : List Instr) (k : ℕ) (instr : Instr) (use_ : Use)
+    → slice_get instrs k ≡ Some instr → Contains (op_uses f b (from + k) instr.op) use_
+    → Contains (uses_from f b from instrs) use_
+uses_at f b from [] k instr use_ at there = absurd (none-some instr at)
+uses_at f b from (first ∷ instrs) zero instr use_ at there =
+    let same : first ≡ instr = same_Some first instr at in
+    let here : from + 0 ≡ from = omega arith in
+    Contains-append_left (op_uses f b from first.op) (uses_from f b (suc from) instrs) use_
+    (subst (λ (one : Instr). Contains (op_uses f b from one.op) use_) (sym same)
+    (subst (λ (n : ℕ). Contains (op_uses f b n instr.op) use_) here there))
+uses_at f b from (first ∷ instrs) (suc k) instr use_ at there =
+    let behind : from + suc k ≡ suc from + k = omega arith in
+    Contains-append_right (op_uses f b from first.op) (uses_from f b (suc from) instrs) use_
+    (uses_at f b (suc from) instrs k instr use_ at
+    (subst (λ (n : ℕ). Contains (op_uses f b n instr.op) use_) behind there))
+
+zero_plus : (i : ℕ) → i ≡ 0 + i
+zero_plus i = omega arith
+
+-- an operation that is no phi reads its operands where it stands
+plain_uses : (f : Function) (b i : ℕ) (op : Op) → is_phi op ≡ false
+    → op_uses f b i op ≡ map (λ (v : ℕ). record { value = v; user = b; block = b; index = i })
+    (flat_map register_of (operands op))
+plain_uses f b i (Phi kind entries) none = absurd (false≢true (sym none))
+plain_uses f b i _ none = refl
+
+-- what a phi reads for one entry
+abbrev entry_uses : Function → ℕ → PhiEntry → List Use
+entry_uses f b entry =
+    map (λ (v : ℕ). record { value = v; user = b; block = entry.from.0; index = size_of f entry.from.0 })
+    (register_of entry.value)
+
+-- and so of an instruction of a block of the function
+instr_uses : (f : Function) (b i : ℕ) (block : Block) (instr : Instr) (use_ : Use) → StandsIn f b i block instr
+    → Contains (op_uses f b i instr.op) use_ → Contains (uses f) use_
+instr_uses f b i block instr use_ stands there =
+    let found = found_there (λ (one : Block). one.id.0 == b) f.blocks block stands.block in
+    let own : block.id.0 ≡ b = eqb-true block.id.0 b found.2 in
+    contains_flat (λ (one : Block). uses_from f one.id.0 0 one.instrs) f.blocks block use_
+    (at_contains f.blocks found.0 block found.1)
+    (subst (λ (n : ℕ). Contains (uses_from f n 0 block.instrs) use_) (sym own)
+    (uses_at f b 0 block.instrs i instr use_ stands.instr
+    (subst (λ (n : ℕ). Contains (op_uses f b n instr.op) use_) (zero_plus i) there)))
+
+pub operand_use : (f : Function) (b i : ℕ) (block : Block) (instr : Instr) (v : ℕ) → StandsIn f b i block instr
+    → is_phi instr.op ≡ false → Contains (operands instr.op) (operand.Reg (record { 0 = v }))
+    → Contains (uses f) (record { value = v; user = b; block = b; index = i })
+operand_use f b i block instr v stands no_phi there =
+    let use_of : ℕ → Use = λ v. record { value = v; user = b; block = b; index = i } in
+    let read : Contains (flat_map register_of (operands instr.op)) v =
+    contains_flat register_of (operands instr.op) (operand.Reg (record { 0 = v })) v there (0, omega arith, refl) in
+    instr_uses f b i block instr (use_of v) stands
+    (subst (λ (found : List Use). Contains found (use_of v)) (sym (plain_uses f b i instr.op no_phi))
+    (contains_mapped use_of (flat_map register_of (operands instr.op)) v read))
+
+pub phi_use : (f : Function) (b i : ℕ) (block : Block) (instr : Instr) (kind : IrType) (entries : List PhiEntry)
+    (entry : PhiEntry) (v : ℕ) → StandsIn f b i block instr → instr.op ≡ Phi kind entries → Contains entries entry
+    → entry.value ≡ operand.Reg (record { 0 = v })
+    → Contains (uses f) (record { value = v; user = b; block = entry.from.0; index = size_of f entry.from.0 })
+phi_use f b i block instr kind entries entry v stands is there reads =
+    let use_of : ℕ → Use =
+    λ v. record { value = v; user = b; block = entry.from.0; index = size_of f entry.from.0 } in
+    let read : Contains (entry_uses f b entry) (use_of v) =
+    contains_mapped use_of (register_of entry.value) v
+    (subst (λ (o : Operand). Contains (register_of o) v) (sym reads) (0, omega arith, refl)) in
+    instr_uses f b i block instr (use_of v) stands
+    (subst (λ (op : Op). Contains (op_uses f b i op) (use_of v)) (sym is)
+    (contains_flat (entry_uses f b) entries entry (use_of v) there read))
