@@ -1,4 +1,5 @@
 pub mod Entered
+pub mod Kept
 pub mod Members
 pub mod Passed
 pub mod Registers
