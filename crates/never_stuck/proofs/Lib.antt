@@ -3,6 +3,7 @@ pub mod Kept
 pub mod Members
 pub mod Passed
 pub mod Registers
+pub mod Runs
 pub mod Shown
 pub mod Sound
 pub mod Standing
