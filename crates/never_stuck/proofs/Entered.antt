@@ -1,5 +1,5 @@
 -- A block that is entered from a sound state: its phis all have values, and the state behind them is sound.
-use Rattle.std.proofs.Common.{◌≡◌, ℕ, ◌<◌, ◌⊎◌, ◌&&◌, Bool, true, false, List, [], ◌∷◌, length, map, Option, Some, None, option_and_then, Contains, slice_get, refl, sym, ◌∙◌, inl, inr, subst, ap, arith}
+use Rattle.std.proofs.Common.{◌≡◌, ℕ, ◌<◌, ◌⊎◌, true, List, [], ◌∷◌, length, map, Option, Some, option_and_then, Contains, slice_get, refl, sym, ◌∙◌, inl, inr, subst, ap, arith}
 use Rattle.std.proofs.lemmas.Bool.{and_parts, false≢true}
 use Rattle.std.proofs.lemmas.Option.{same_Some, slice_get_within}
 use Rattle.std.specs.List.{list_all}
@@ -28,7 +28,7 @@ use Rattle.ir_meaning.specs.declared.value.Value.{Value}
 use Rattle.ir_meaning.specs.State.{Registers, State}
 use Rattle.ir_meaning.specs.Values.{is_of_type}
 use Rattle.ir_meaning.specs.Operands.{operand_value}
-use Rattle.ir_meaning.specs.Step.{entry_from, phi_value, with_phis, behind_phis}
+use Rattle.ir_meaning.specs.Step.{phi_value, with_phis, behind_phis}
 use Rattle.ir_meaning.proofs.LeadingPhis.{leading_at}
 use Rattle.never_stuck.proofs.Sound.{Holds, StandsIn, Sound}
 use Rattle.never_stuck.proofs.Shown.{Accepts, Computes}
@@ -99,7 +99,7 @@ module _ (signatures : Signatures) (f : Function) (accepts : Accepts signatures 
           record {
             value = found.0;
             is = ap (phi_value s.registers n s.block) shape
-            ∙ ap (λ (o : Option Operand). option_and_then (operand_value s.registers n kind) o) entry.3 ∙ found.1;
+                ∙ ap (λ (o : Option Operand). option_and_then (operand_value s.registers n kind) o) entry.3 ∙ found.1;
             suits = suits_result found.0 found.2;
           }
 
@@ -156,8 +156,7 @@ module _ (signatures : Signatures) (f : Function) (accepts : Accepts signatures 
         × Sound f (behind_phis to block s (Some registers))
     entered_sound n =
         let set =
-        held_phis f s.registers n s.block (leading_phis block.instrs) (leading_valued n) s.registers in
-        (
+        held_phis f s.registers n s.block (leading_phis block.instrs) (leading_valued n) s.registers in (
           set.0,
           set.1,
           record {

@@ -1,24 +1,23 @@
 -- Each step of a sound state that runs leads to a sound state that runs, or ends the run, and never stuck.
-use Rattle.std.proofs.Common.{◌≡◌, ◌≢◌, ℕ, suc, ◌+◌, ◌<◌, ◌⊎◌, Bool, true, false, List, [], ◌∷◌, length, Option, Some, None, if◌then◌else◌, Contains, slice_get, refl, sym, ◌∙◌, inl, inr, subst, ap, arith}
+use Rattle.std.proofs.Common.{◌≡◌, ◌≢◌, ℕ, suc, ◌+◌, ◌<◌, ◌⊎◌, true, false, length, Some, Contains, refl, inl, inr, arith}
 use Rattle.std.proofs.lemmas.Bool.{cases_Bool}
 use Rattle.ir_model.specs.declared.function.Instr.{Instr}
-use Rattle.ir_model.specs.declared.function.Block.{Block}
 use Rattle.ir_model.specs.declared.function.Function.{Function}
 use Rattle.ir_model.specs.declared.signature.Signatures.{Signatures}
 use Rattle.ir_model.specs.Defined.{given_type}
-use Rattle.ir_model.specs.Shapes.{block_of, leading_phis, targets, is_terminator}
+use Rattle.ir_model.specs.Shapes.{block_of, targets, is_terminator}
 use Rattle.ir_model.specs.Walks.{Edge}
-use Rattle.ir_rules.specs.Uses.{HasPassed, UsesAreDefined}
+use Rattle.ir_rules.specs.Uses.{UsesAreDefined}
 use Rattle.ir_meaning.specs.declared.value.Value.{Value}
 use Rattle.ir_meaning.specs.declared.phase.Phase.{Phase}
 use Rattle.ir_meaning.specs.declared.phase.Phase.TheVariants as phase
 use Rattle.ir_meaning.specs.declared.choice.Choice.{Choice}
-use Rattle.ir_meaning.specs.State.{Registers, State, is_running}
+use Rattle.ir_meaning.specs.State.{State, is_running}
 use Rattle.ir_meaning.specs.Values.{is_of_type}
 use Rattle.ir_meaning.specs.Operands.{chosen}
-use Rattle.ir_meaning.specs.Step.{Computed, Gives, Fails, Way, Enters, Leaves, computed, way, gone, with_phis, behind_phis, entered, after_effect, after_way, instr_at, carried_out, step}
+use Rattle.ir_meaning.specs.Step.{Computed, Gives, Fails, Way, Enters, Leaves, computed, way, gone, entered, after_effect, after_way, instr_at, carried_out, step}
 use Rattle.never_stuck.specs.NeverStuck.{IsBuilt}
-use Rattle.never_stuck.proofs.Sound.{Holds, StandsIn, Sound}
+use Rattle.never_stuck.proofs.Sound.{StandsIn, Sound}
 use Rattle.never_stuck.proofs.Shown.{Accepts, Computes}
 use Rattle.never_stuck.proofs.Members.{at_contains, contains_flat}
 use Rattle.never_stuck.proofs.Registers.{SuitsResult, held_set}
@@ -94,7 +93,7 @@ module _ (signatures : Signatures) (f : Function) (accepts : Accepts signatures 
         sound.block,
         sound.at,
         contains_flat (λ (one : Instr). targets one.op) sound.block.instrs instr to
-        (at_contains sound.block.instrs s.place instr stands.instr) leads,
+            (at_contains sound.block.instrs s.place instr stands.instr) leads,
       )
 
       entered_well : (to : ℕ) → Contains (targets instr.op) to

@@ -1,4 +1,5 @@
 pub mod Entered
+pub mod Filled
 pub mod Kept
 pub mod Members
 pub mod Passed

@@ -1,7 +1,7 @@
 -- Members of lists, and of lists that are made of others.
-use Rattle.std.proofs.Common.{◌≡◌, ℕ, zero, suc, ◌⊎◌, List, [], ◌∷◌, ◌++◌, map, flat_map, Some, Contains, slice_get, sym, inl, inr, subst, ap, arith}
+use Rattle.std.proofs.Common.{◌≡◌, ℕ, zero, suc, ◌⊎◌, List, [], ◌∷◌, map, flat_map, Some, Contains, slice_get, sym, inl, inr, subst, ap, arith}
 use Rattle.std.proofs.lemmas.Bool.{cases_eq}
-use Rattle.std.proofs.lemmas.Option.{none-some, same_Some, slice_get_within, get_or_from_slice_get}
+use Rattle.std.proofs.lemmas.Option.{slice_get_within, get_or_from_slice_get}
 use Rattle.std.proofs.lemmas.List.Elements.{Contains-append_left, Contains-append_right}
 
 pub contains_none : {X : Type 0} (x : X) → Contains [] x → ⊥
@@ -45,7 +45,8 @@ contains_flat pick [] x y there picked = absurd (contains_none x there)
 contains_flat pick (other ∷ xs) x y there picked =
     elim (contains_cases other xs x there) [
       | inl e ↦
-          Contains-append_left (pick other) (flat_map pick xs) y (subst (λ (one : _). Contains (pick one) y) (sym e) picked)
+          Contains-append_left (pick other) (flat_map pick xs) y
+          (subst (λ (one : _). Contains (pick one) y) (sym e) picked)
       | inr later ↦
           Contains-append_right (pick other) (flat_map pick xs) y (contains_flat pick xs x y later picked)
     ]

@@ -1,5 +1,5 @@
 -- What a walk of an accepted function has passed where a value is used, and which uses its instructions have.
-use Rattle.std.proofs.Common.{◌≡◌, ℕ, zero, suc, ◌+◌, ◌<◌, ◌==◌, ◌⊎◌, Bool, true, false, List, [], ◌∷◌, map, flat_map, Option, Some, None, Contains, slice_get, refl, sym, ◌∙◌, inl, inr, subst, ap, arith}
+use Rattle.std.proofs.Common.{◌≡◌, ℕ, zero, suc, ◌+◌, ◌<◌, ◌==◌, ◌⊎◌, Bool, true, false, List, [], ◌∷◌, map, flat_map, Option, Some, None, Contains, slice_get, refl, sym, ◌∙◌, inl, inr, subst, arith}
 use Rattle.std.proofs.lemmas.Bool.{cases_eq, cases_lt, both_ways, eqb-true, false≢true}
 use Rattle.std.proofs.lemmas.Option.{none-some, same_Some, some_pair_parts}
 use Rattle.std.proofs.lemmas.List.Elements.{Contains-append_left, Contains-append_right}
@@ -14,7 +14,7 @@ use Rattle.ir_model.specs.declared.function.Instr.{Instr}
 use Rattle.ir_model.specs.declared.function.Block.{Block}
 use Rattle.ir_model.specs.declared.function.Function.{Function}
 use Rattle.ir_model.specs.Places.{is_param, place_of}
-use Rattle.ir_model.specs.Shapes.{block_of, operands, register_of, is_phi}
+use Rattle.ir_model.specs.Shapes.{operands, register_of, is_phi}
 use Rattle.ir_model.specs.Walks.{Trail}
 use Rattle.ir_rules.specs.Uses.{Use, size_of, op_uses, uses_from, uses, HasPassed, UsesAreDefined}
 use Rattle.ir_meaning.proofs.ListPlaces.{contained_at, found_there}

@@ -1,5 +1,5 @@
 -- Registers that hold values of their types, as they are set: by arguments, by results, and by phis.
-use Rattle.std.proofs.Common.{◌≡◌, ℕ, zero, suc, ◌<◌, ◌^◌, ◌==◌, ◌⊎◌, Bool, true, List, [], ◌∷◌, Option, Some, None, option_and_then, Contains, slice_get, refl, sym, ◌∙◌, inl, inr, subst, ap, arith}
+use Rattle.std.proofs.Common.{◌≡◌, ℕ, zero, suc, ◌^◌, ◌==◌, ◌⊎◌, true, List, [], ◌∷◌, Option, Some, None, option_and_then, Contains, slice_get, refl, sym, ◌∙◌, inl, inr, ap, arith}
 use Rattle.std.proofs.lemmas.Bool.{or_cases, cases_eq, eqb-true, eq-eqb, ne_eqb, lt-ltb, cond-true, cond-false, false≢true}
 use Rattle.std.proofs.lemmas.Option.{none-some, same_Some}
 use Rattle.scev_base.specs.declared.ids.ValueId.{ValueId}
@@ -113,19 +113,18 @@ module _ (f : Function) where
         (after, refl, λ v known. elim known [ inl held ↦ held | inr given ↦ absurd (none-some given.1 given.2) ])
     held_phis (instr ∷ instrs) each after =
         let first = each 0 instr refl in
-        let rest = held_phis instrs (λ k phi at. each (suc k) phi at) (set after instr.result first.value) in
-        (
+        let rest = held_phis instrs (λ k phi at. each (suc k) phi at) (set after instr.result first.value) in (
           rest.0,
           ap (λ (o : Option Value).
-          option_and_then (λ (x : Value). with_phis before n from instrs (set after instr.result x)) o) first.is
-          ∙ rest.1,
+              option_and_then (λ (x : Value). with_phis before n from instrs (set after instr.result x)) o) first.is
+              ∙ rest.1,
           λ v known.
-          rest.2 v (elim known [
-            | inl held ↦ inl (held_set after instr.result first.value first.suits v (inl held))
-            | inr given ↦
-                elim (given_first instr instrs v given) [
-                  | inl here ↦ inl (held_set after instr.result first.value first.suits v (inr here))
-                  | inr later ↦ inr later
-                ]
-          ]),
+              rest.2 v (elim known [
+                | inl held ↦ inl (held_set after instr.result first.value first.suits v (inl held))
+                | inr given ↦
+                    elim (given_first instr instrs v given) [
+                      | inl here ↦ inl (held_set after instr.result first.value first.suits v (inr here))
+                      | inr later ↦ inr later
+                    ]
+              ]),
         )

@@ -1,5 +1,5 @@
 -- No run that begins in a sound state comes to be stuck.
-use Rattle.std.proofs.Common.{◌≡◌, ◌≢◌, ◌⊎◌, false, List, [], ◌∷◌, refl, sym, ◌∙◌, inl, inr}
+use Rattle.std.proofs.Common.{◌≡◌, ◌≢◌, false, List, [], ◌∷◌, refl, sym, ◌∙◌, inl, inr}
 use Rattle.ir_model.specs.declared.function.Function.{Function}
 use Rattle.ir_model.specs.declared.signature.Signatures.{Signatures}
 use Rattle.ir_rules.specs.Uses.{UsesAreDefined}

@@ -1,5 +1,5 @@
 -- What a sound state stands at: an instruction, whose operands hold values.
-use Rattle.std.proofs.Common.{◌≡◌, ℕ, suc, ◌+◌, ◌<◌, ◌==◌, ◌⊎◌, true, false, List, [], ◌∷◌, length, Option, Some, None, option_and_then, option_map, unwrap_or, Contains, slice_get, refl, sym, ◌∙◌, inl, inr, subst, ap, arith}
+use Rattle.std.proofs.Common.{◌≡◌, ℕ, suc, ◌<◌, ◌==◌, ◌⊎◌, true, false, List, length, Option, Some, option_and_then, option_map, unwrap_or, slice_get, sym, ◌∙◌, inl, inr, subst, ap, arith}
 use Rattle.std.proofs.lemmas.Bool.{cases_lt, false≢true}
 use Rattle.std.proofs.lemmas.Option.{same_Some, slice_get_cases}
 use Rattle.std.proofs.lemmas.List.Elements.{All-contains}
@@ -20,7 +20,7 @@ use Rattle.ir_meaning.specs.Step.{instr_at}
 use Rattle.ir_meaning.specs.Run.{GivesTo}
 use Rattle.ir_meaning.proofs.ListPlaces.{found_there}
 use Rattle.never_stuck.specs.NeverStuck.{IsBuiltOp, IsBuilt}
-use Rattle.never_stuck.proofs.Sound.{Holds, HoldsOperands, StandsIn, Facts, Sound}
+use Rattle.never_stuck.proofs.Sound.{Holds, HoldsOperands, StandsIn, Sound}
 use Rattle.never_stuck.proofs.Shown.{Accepts}
 use Rattle.never_stuck.proofs.Members.{at_contains, contains_flat}
 use Rattle.never_stuck.proofs.Passed.{use_passed, operand_use}

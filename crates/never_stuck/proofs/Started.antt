@@ -1,5 +1,5 @@
 -- The state at the start.
-use Rattle.std.proofs.Common.{◌≡◌, ℕ, ◌≤◌, List, [], length, Some, None, refl, inl, inr, arith}
+use Rattle.std.proofs.Common.{ℕ, ◌≤◌, List, [], length, None, refl, inl, inr, arith}
 use Rattle.ir_model.specs.declared.function.Function.{Function}
 use Rattle.ir_model.specs.declared.signature.Signatures.{Signatures}
 use Rattle.ir_model.specs.Shapes.{entry, leading_phis}
