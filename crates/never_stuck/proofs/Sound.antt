@@ -30,9 +30,9 @@ abbrev pub HoldsOperands : Function → Registers → List Operand → Type 0
 HoldsOperands f registers operands = (v : ℕ) → Contains operands (operand.Reg (record { 0 = v })) → Holds f registers v
 
 -- An instruction stands in a block of the function.
-pub record StandsIn (f : Function) (b i : ℕ) (block : Block) (instr : Instr) : Type 0 where
-  pub block : block_of f b ≡ Some block
-  pub instr : slice_get block.instrs i ≡ Some instr
+pub record StandsIn (f : Function) (b i : ℕ) (there : Block) (one : Instr) : Type 0 where
+  pub block : block_of f b ≡ Some there
+  pub instr : slice_get there.instrs i ≡ Some one
 
 -- What rules and forms say of an instruction of a block.
 pub record Facts (signatures : Signatures) (f : Function) (b : ℕ) (instr : Instr) : Type 0 where
