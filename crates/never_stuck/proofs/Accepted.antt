@@ -1,9 +1,10 @@
 -- What the rules say of the instructions of an accepted function.
-use Rattle.std.proofs.Common.{◌≡◌, ℕ, zero, suc, ◌==◌, ◌<◌, Bool, true, false, not, ◌||◌, List, [], ◌∷◌, ◌++◌, length, map, flat_map, filter, find, Option, Some, None, All, Contains, slice_get, refl, sym, ap, ◌∙◌, subst, inl, inr, arith}
+use Rattle.std.proofs.Common.{◌≡◌, ℕ, zero, suc, ◌==◌, ◌<◌, Bool, true, false, cond, not, ◌||◌, List, [], ◌∷◌, ◌++◌, length, map, flat_map, filter, find, Option, Some, None, All, Contains, slice_get, refl, sym, ap, ◌∙◌, subst, inl, inr, arith}
 use Rattle.std.specs.List.{list_any}
-use Rattle.std.proofs.lemmas.Bool.{eqb-true, not-false, true≢false}
+use Rattle.std.proofs.lemmas.Bool.{eqb-true, not-false, true≢false, cases_Bool, cond-true, cond-false}
 use Rattle.std.proofs.lemmas.Option.{none-some, same_Some}
 use Rattle.std.proofs.lemmas.List.Elements.{All-contains, Contains-append_right}
+use Rattle.std.proofs.lemmas.List.Sums.{take_while-cons}
 use Rattle.ir_model.specs.declared.op.Op.{Op}
 use Rattle.ir_model.specs.declared.op.Op.TheVariants.{Jump, Branch, Switch}
 use Rattle.ir_model.specs.declared.op.Case.{Case}
@@ -15,9 +16,10 @@ use Rattle.ir_model.specs.declared.rule.Rule.{Rule}
 use Rattle.ir_model.specs.declared.rule.Rule.TheVariants as rule
 use Rattle.ir_model.specs.declared.rule.Place.{Place}
 use Rattle.ir_model.specs.declared.rule.Place.TheVariants.{BlockAt}
-use Rattle.ir_model.specs.Shapes.{entry, block_of, defined_blocks, targets, is_terminator}
+use Rattle.ir_model.specs.Shapes.{entry, block_of, defined_blocks, targets, is_terminator, is_phi, leading_phis}
 use Rattle.ir_model.specs.Sites.{Site, UsesBlock, operand_sites, op_sites}
 use Rattle.ir_model.specs.WellMade.{IsFormedInstr, AreFormed, IsWellMade}
+use Rattle.ir_meaning.proofs.LeadingPhis.{last_no_phi}
 use Rattle.ir_meaning.proofs.ListPlaces.{found_there}
 use Rattle.ir_rules.specs.Accepted.{IsAccepted}
 use Rattle.ir_rules.specs.Blocks.{entries_fit}
@@ -126,6 +128,63 @@ formed_at (last ∷ []) formed (suc i) instr at = absurd (none-some instr at)
 formed_at (first ∷ next ∷ more) formed zero instr at = subst IsFormedInstr (same_Some first instr at) formed.0
 formed_at (first ∷ next ∷ more) formed (suc i) instr at = formed_at (next ∷ more) formed.2 i instr at
 
+goes_on : (instrs : List Instr) → AreFormed instrs → (i : ℕ) (instr : Instr) → slice_get instrs i ≡ Some instr
+    → is_terminator instr.op ≡ false → suc i < length instrs
+goes_on [] formed i instr at goes = absurd formed
+goes_on (last ∷ []) formed zero instr at goes =
+    let same : is_terminator last.op ≡ is_terminator instr.op = ap (λ (one : Instr). is_terminator one.op)
+    (same_Some last instr at) in
+    absurd (true≢false (sym formed.1 ∙ (same ∙ goes)))
+goes_on (last ∷ []) formed (suc i) instr at goes = absurd (none-some instr at)
+goes_on (first ∷ next ∷ more) formed zero instr at goes = omega arith
+goes_on (first ∷ next ∷ more) formed (suc i) instr at goes =
+    let rest : suc i < length (next ∷ more) = goes_on (next ∷ more) formed.2 i instr at goes in
+    omega arith
+
+stands_last : (instrs : List Instr) → AreFormed instrs → (i : ℕ) (instr : Instr) → slice_get instrs i ≡ Some instr
+    → is_terminator instr.op ≡ true → suc i ≡ length instrs
+stands_last [] formed i instr at ends = absurd formed
+stands_last (last ∷ []) formed zero instr at ends = refl
+stands_last (last ∷ []) formed (suc i) instr at ends = absurd (none-some instr at)
+stands_last (first ∷ next ∷ more) formed zero instr at ends =
+    let same : is_terminator first.op ≡ is_terminator instr.op = ap (λ (one : Instr). is_terminator one.op)
+    (same_Some first instr at) in
+    absurd (true≢false (sym ends ∙ (sym same ∙ formed.1)))
+stands_last (first ∷ next ∷ more) formed (suc i) instr at ends =
+    let rest : suc i ≡ length (next ∷ more) = stands_last (next ∷ more) formed.2 i instr at ends in
+    omega arith
+
+some_formed : (instrs : List Instr) → AreFormed instrs → 0 < length instrs
+some_formed [] formed = absurd formed
+some_formed (instr ∷ instrs) formed = omega arith
+
+-- ---- phis come first
+
+leading_cons : (instr : Instr) (instrs : List Instr)
+    → leading_phis (instr ∷ instrs) ≡ cond (is_phi instr.op) (instr ∷ leading_phis instrs) []
+leading_cons instr instrs = take_while-cons (λ (one : Instr). is_phi one.op) instr instrs
+
+none_leads : (instr : Instr) (instrs : List Instr) → is_phi instr.op ≡ false → leading_phis (instr ∷ instrs) ≡ []
+none_leads instr instrs other = leading_cons instr instrs
+    ∙ cond-false (is_phi instr.op) (instr ∷ leading_phis instrs) [] other
+
+one_leads : (instr : Instr) (instrs : List Instr) → is_phi instr.op ≡ true
+    → leading_phis (instr ∷ instrs) ≡ instr ∷ leading_phis instrs
+one_leads instr instrs is = leading_cons instr instrs
+    ∙ cond-true (is_phi instr.op) (instr ∷ leading_phis instrs) [] is
+
+phis_end : (instrs : List Instr) → AreFormed instrs → length (leading_phis instrs) < length instrs
+phis_end [] formed = absurd formed
+phis_end (last ∷ []) formed =
+    let none = ap length (none_leads last [] (last_no_phi last.op formed.1)) in
+    omega (arith, none)
+phis_end (first ∷ next ∷ more) formed =
+    let rest = phis_end (next ∷ more) formed.2 in
+    elim (cases_Bool (is_phi first.op)) [
+      | inl is ↦ let some = ap length (one_leads first (next ∷ more) is) in omega (arith, some, rest)
+      | inr other ↦ let none = ap length (none_leads first (next ∷ more) other) in omega (arith, none)
+    ]
+
 module _ (signatures : Signatures) (f : Function) (made : IsWellMade f) (accepted : IsAccepted signatures f) where
   pub block_formed : (b : ℕ) (block : Block) → block_of f b ≡ Some block → AreFormed block.instrs
   block_formed b block at =
@@ -169,3 +228,18 @@ module _ (signatures : Signatures) (f : Function) (made : IsWellMade f) (accepte
           (unbroken signatures f accepted 7 rule.PhiEntries refl));
       leads = leads_on;
     }
+
+    -- what ends a block stands last, and nothing else does
+    pub ends_at : is_terminator instr.op ≡ false → suc i < length block.instrs
+    ends_at goes = goes_on block.instrs (block_formed b block stands.block) i instr stands.instr goes
+
+    pub last_at : is_terminator instr.op ≡ true → suc i ≡ length block.instrs
+    last_at ends = stands_last block.instrs (block_formed b block stands.block) i instr stands.instr ends
+
+  module _ (b : ℕ) (block : Block) (at : block_of f b ≡ Some block) where
+    pub some_instr : 0 < length block.instrs
+    some_instr = some_formed block.instrs (block_formed b block at)
+
+    -- the last instruction is no phi
+    pub leading_ends : length (leading_phis block.instrs) < length block.instrs
+    leading_ends = phis_end block.instrs (block_formed b block at)
