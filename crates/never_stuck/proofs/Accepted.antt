@@ -1,5 +1,5 @@
 -- What the rules say of the instructions of an accepted function.
-use Rattle.std.proofs.Common.{◌≡◌, ℕ, zero, suc, ◌==◌, ◌<◌, Bool, true, false, cond, not, ◌||◌, List, [], ◌∷◌, ◌++◌, length, map, flat_map, filter, find, Option, Some, None, All, Contains, slice_get, refl, sym, ap, ◌∙◌, subst, inl, inr, arith}
+use Rattle.std.proofs.Common.{◌≡◌, ℕ, zero, suc, ◌==◌, ◌<◌, ◌≤◌, Bool, true, false, cond, not, ◌||◌, List, [], ◌∷◌, ◌++◌, length, map, flat_map, filter, find, Option, Some, None, All, Contains, slice_get, refl, sym, ap, ◌∙◌, subst, inl, inr, arith}
 use Rattle.std.specs.List.{list_any}
 use Rattle.std.proofs.lemmas.Bool.{eqb-true, not-false, true≢false, cases_Bool, cond-true, cond-false}
 use Rattle.std.proofs.lemmas.Option.{none-some, same_Some}
@@ -22,7 +22,7 @@ use Rattle.ir_model.specs.WellMade.{IsFormedInstr, AreFormed, IsWellMade}
 use Rattle.ir_meaning.proofs.LeadingPhis.{last_no_phi}
 use Rattle.ir_meaning.proofs.ListPlaces.{found_there}
 use Rattle.ir_rules.specs.Accepted.{IsAccepted}
-use Rattle.ir_rules.specs.Blocks.{entries_fit}
+use Rattle.ir_rules.specs.Blocks.{late, entries_fit}
 use Rattle.ir_rules.specs.Names.{unless, undefined_at}
 use Rattle.ir_rules.specs.Rules.{broken, shape_rules, first_with, first_of}
 use Rattle.ir_rules.specs.Spots.{Spot, block_spots, spots, place, places_where}
@@ -185,6 +185,49 @@ phis_end (first ∷ next ∷ more) formed =
       | inr other ↦ let none = ap length (none_leads first (next ∷ more) other) in omega (arith, none)
     ]
 
+module _ (instr : Instr) (instrs : List Instr) where
+  late_other : (other : Bool) → is_phi instr.op ≡ false → late other (instr ∷ instrs) ≡ late true instrs
+  late_other true behind = simp behind
+  late_other false behind = simp behind
+
+  late_first : is_phi instr.op ≡ true → late false (instr ∷ instrs) ≡ late false instrs
+  late_first is = simp is
+
+  late_found : is_phi instr.op ≡ true → late true (instr ∷ instrs) ≡ instr ∷ late true instrs
+  late_found is = simp is
+
+-- none behind another instruction
+none_behind : (instrs : List Instr) → late true instrs ≡ [] → (i : ℕ) (instr : Instr) → slice_get instrs i ≡ Some instr
+    → is_phi instr.op ≡ false
+none_behind [] none i instr at = absurd (none-some instr at)
+none_behind (first ∷ instrs) none zero instr at =
+    elim (cases_Bool (is_phi first.op)) [
+      | inl is ↦ let found = late_found first instrs is in absurd (cc)
+      | inr other ↦ subst (λ (one : Instr). is_phi one.op ≡ false) (same_Some first instr at) other
+    ]
+none_behind (first ∷ instrs) none (suc i) instr at =
+    elim (cases_Bool (is_phi first.op)) [
+      | inl is ↦ let found = late_found first instrs is in absurd (cc)
+      | inr other ↦ none_behind instrs (sym (late_other first instrs true other) ∙ none) i instr at
+    ]
+
+-- none behind the phis that stand first
+none_late : (instrs : List Instr) → late false instrs ≡ [] → (i : ℕ) (instr : Instr) → slice_get instrs i ≡ Some instr
+    → length (leading_phis instrs) ≤ i → is_phi instr.op ≡ false
+none_late [] none i instr at behind = absurd (none-some instr at)
+none_late (first ∷ instrs) none zero instr at behind =
+    elim (cases_Bool (is_phi first.op)) [
+      | inl is ↦ let some = ap length (one_leads first instrs is) in absurd (omega (arith, some, behind))
+      | inr other ↦ subst (λ (one : Instr). is_phi one.op ≡ false) (same_Some first instr at) other
+    ]
+none_late (first ∷ instrs) none (suc i) instr at behind =
+    elim (cases_Bool (is_phi first.op)) [
+      | inl is ↦
+          let some = ap length (one_leads first instrs is) in
+          none_late instrs (sym (late_first first instrs is) ∙ none) i instr at (omega (arith, some, behind))
+      | inr other ↦ none_behind instrs (sym (late_other first instrs false other) ∙ none) i instr at
+    ]
+
 module _ (signatures : Signatures) (f : Function) (made : IsWellMade f) (accepted : IsAccepted signatures f) where
   pub block_formed : (b : ℕ) (block : Block) → block_of f b ≡ Some block → AreFormed block.instrs
   block_formed b block at =
@@ -235,6 +278,16 @@ module _ (signatures : Signatures) (f : Function) (made : IsWellMade f) (accepte
 
     pub last_at : is_terminator instr.op ≡ true → suc i ≡ length block.instrs
     last_at ends = stands_last block.instrs (block_formed b block stands.block) i instr stands.instr ends
+
+    -- no phi stands behind the leading ones
+    pub no_late_phi : length (leading_phis block.instrs) ≤ i → is_phi instr.op ≡ false
+    no_late_phi behind =
+        let phis : Block → List Place = λ block.
+        map (λ (instr : Instr). place (record { block = block.id.0; instr = instr })) (late false block.instrs) in
+        let none = flat_map_none phis f.blocks block (unbroken signatures f accepted 6 rule.PhiNotFirst refl)
+        (block_in f b block stands.block).0 in
+        none_late block.instrs (map_none (λ (one : Instr). place (record { block = block.id.0; instr = one }))
+        (late false block.instrs) none) i instr stands.instr behind
 
   module _ (b : ℕ) (block : Block) (at : block_of f b ≡ Some block) where
     pub some_instr : 0 < length block.instrs
