@@ -1,3 +1,4 @@
 pub mod Sound
 pub mod Elements
 pub mod Accepted
+pub mod DefinedOnce
