@@ -2,3 +2,4 @@ pub mod Sound
 pub mod Elements
 pub mod Accepted
 pub mod DefinedOnce
+pub mod DefinedTypes
