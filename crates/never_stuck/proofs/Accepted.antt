@@ -102,11 +102,11 @@ target_used (Switch kind value other cases) to at =
         (cases_used cases to (k, omega arith, is))
 target_used _ to at = absurd (omega (arith, at.1))
 
-holds_of_unless : (holds : Bool) (at : Place) → unless holds at ≡ [] → holds ≡ true
+pub holds_of_unless : (holds : Bool) (at : Place) → unless holds at ≡ [] → holds ≡ true
 holds_of_unless true at none = refl
 holds_of_unless false at none = absurd (cc)
 
-any_of_map : {X Y : Type 0} (p : Y → Bool) (g : X → Y) (xs : List X)
+pub any_of_map : {X Y : Type 0} (p : Y → Bool) (g : X → Y) (xs : List X)
     → list_any p (map g xs) ≡ list_any (λ x. p (g x)) xs
 any_of_map p g [] = refl
 any_of_map p g (x ∷ xs) = ap (λ rest. p (g x) || rest) (any_of_map p g xs)
@@ -164,7 +164,7 @@ leading_cons : (instr : Instr) (instrs : List Instr)
     → leading_phis (instr ∷ instrs) ≡ cond (is_phi instr.op) (instr ∷ leading_phis instrs) []
 leading_cons instr instrs = take_while-cons (λ (one : Instr). is_phi one.op) instr instrs
 
-none_leads : (instr : Instr) (instrs : List Instr) → is_phi instr.op ≡ false → leading_phis (instr ∷ instrs) ≡ []
+pub none_leads : (instr : Instr) (instrs : List Instr) → is_phi instr.op ≡ false → leading_phis (instr ∷ instrs) ≡ []
 none_leads instr instrs other = leading_cons instr instrs
     ∙ cond-false (is_phi instr.op) (instr ∷ leading_phis instrs) [] other
 

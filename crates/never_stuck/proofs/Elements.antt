@@ -3,7 +3,7 @@ use Rattle.std.proofs.Common.{◌≡◌, ℕ, zero, suc, ◌<◌, Bool, true, fa
 use Rattle.std.specs.List.{list_any, list_all}
 use Rattle.std.proofs.lemmas.Bool.{cases_Bool, true≢false}
 use Rattle.std.proofs.lemmas.Option.{slice_get_within, get_or_from_slice_get}
-use Rattle.std.proofs.lemmas.List.Elements.{All-contains, Contains-append_left, Contains-append_right, Contains-append_cases}
+use Rattle.std.proofs.lemmas.List.Elements.{All-contains, All-filter, All-contains_itself, filter_passes, Contains-append_left, Contains-append_right, Contains-append_cases}
 use Rattle.std.proofs.lemmas.List.Folds.{list_any_at, Any-from_list_any}
 use Rattle.std.proofs.lemmas.List.Sums.{AllPass-from_list_all}
 
@@ -116,3 +116,18 @@ none_of_any p xs x none there =
 
 pub one_of_all : {X : Type 0} (p : X → Bool) (xs : List X) (x : X) → list_all p xs ≡ true → Contains xs x → p x ≡ true
 one_of_all p xs x all there = All-contains (λ y. p y ≡ true) xs x (AllPass-from_list_all p xs all) there
+
+pub map_only : {X Y : Type 0} (g : X → Y) (xs : List X) (y : Y) → Contains (map g xs) y
+    → (x : X) × Contains xs x × (g x ≡ y)
+map_only g [] y there = absurd (omega (arith, there.1))
+map_only g (x ∷ xs) y (zero, within, is) = (x, (0, omega arith, refl), is)
+map_only g (x ∷ xs) y (suc k, within, is) =
+    let found = map_only g xs y (k, omega arith, is) in
+    (found.0, contains_more x xs found.0 found.1, found.2)
+
+pub filter_only : {X : Type 0} (p : X → Bool) (xs : List X) (x : X) → Contains (filter p xs) x
+    → Contains xs x × (p x ≡ true)
+filter_only p xs x there = (
+  All-contains (Contains xs) (filter p xs) x (All-filter p (Contains xs) xs (All-contains_itself xs)) there,
+  All-contains (λ y. p y ≡ true) (filter p xs) x (filter_passes p xs) there,
+)

@@ -3,3 +3,4 @@ pub mod Elements
 pub mod Accepted
 pub mod DefinedOnce
 pub mod DefinedTypes
+pub mod EnteredPhis
