@@ -63,16 +63,49 @@ abbrev sources_of : List PhiEntry → List ℕ
 sources_of entries = map (λ (one : PhiEntry). one.from.0) entries
 
 -- the first entry from a block that leads there
-entry_of : (entries : List PhiEntry) (incoming : List ℕ) → same_numbers (sources_of entries) incoming ≡ true
-    → (a : ℕ) → Contains incoming a
+entry_of : (entries : List PhiEntry) (coming : List ℕ) → same_numbers (sources_of entries) coming ≡ true
+    → (a : ℕ) → Contains coming a
     → (one : PhiEntry) × (find (λ (one : PhiEntry). one.from.0 == a) entries ≡ Some one)
-entry_of entries incoming same a there =
-    let as_often = same_occurs (sources_of entries) incoming same a
-    (Contains-append_right (sources_of entries) incoming a there) in
+entry_of entries coming same a there =
+    let as_often = same_occurs (sources_of entries) coming same a
+    (Contains-append_right (sources_of entries) coming a there) in
     let some = some_counted (λ (n : ℕ). n == a) (sources_of entries)
-    (omega (arith, as_often, occurs_there a incoming there)) in
+    (omega (arith, as_often, occurs_there a coming there)) in
     any_found (λ (one : PhiEntry). one.from.0 == a) entries
     (sym (any_of_map (λ (n : ℕ). n == a) (λ (one : PhiEntry). one.from.0) entries) ∙ some)
+
+-- ---- the first block
+
+first_block : (blocks : List Block) → blocks ≢ []
+    → (block : Block) × (find (λ (one : Block). one.id.0 == entry blocks) blocks ≡ Some block)
+first_block [] some = absurd (some refl)
+first_block (block ∷ blocks) some =
+    (block, cond-true (block.id.0 == block.id.0) (Some block)
+    (find (λ (one : Block). one.id.0 == block.id.0) blocks) (eq-eqb block.id.0 block.id.0 refl))
+
+-- a phi, by what it is made of
+phi_parts : (op : Op) → is_phi op ≡ true → (kind : IrType) × (entries : List PhiEntry) × (op ≡ Phi kind entries)
+phi_parts (Phi kind entries) is = (kind, entries, refl)
+phi_parts _ is = absurd (false≢true is)
+
+-- a phi has an entry, and so its block is led to
+some_comes_in : (entries : List PhiEntry) (coming : List ℕ) → entries ≢ []
+    → same_numbers (sources_of entries) coming ≡ true → (a : ℕ) × Contains coming a
+some_comes_in [] coming some same = absurd (some refl)
+some_comes_in (one ∷ entries) coming some same =
+    let n = one.from.0 in
+    let here : Contains (sources_of (one ∷ entries)) n = (0, omega arith, refl) in
+    let as_often = same_occurs (sources_of (one ∷ entries)) coming same n
+    (Contains-append_left (sources_of (one ∷ entries)) coming n here) in
+    let any = Any-from_list_any (λ (other : ℕ). other == n) coming
+    (some_counted (λ (other : ℕ). other == n) coming
+    (omega (arith, as_often, occurs_there n (sources_of (one ∷ entries)) here))) in
+    (any.1, (any.0, any.2, any.3))
+
+none_leading : (instrs : List Instr) → ((instr : Instr) → slice_get instrs 0 ≡ Some instr → is_phi instr.op ≡ false)
+    → leading_phis instrs ≡ []
+none_leading [] other = refl
+none_leading (instr ∷ instrs) other = none_leads instr instrs (other instr refl)
 
 module _ (signatures : Signatures) (f : Function) (made : IsWellMade f) (accepted : IsAccepted signatures f) where
   -- the entries of a phi are as many from each block as lead there
@@ -97,3 +130,43 @@ module _ (signatures : Signatures) (f : Function) (made : IsWellMade f) (accepte
         eqb-true found.0.from.0 a there.2,
         ap (λ (o : Option PhiEntry). option_map (λ (one : PhiEntry). one.value) o) found.1,
       )
+
+  -- nothing leads to the first block
+  none_comes_in : (a : ℕ) → Contains (incoming f (entry f.blocks)) a → ⊥
+  none_comes_in a there =
+      let b = entry f.blocks in
+      let from = flat_map_only (leading_from b) f.blocks a there in
+      let kept = map_only (λ (to : ℕ). from.0.id.0) (filter (λ to. to == b) (successors from.0.instrs)) a from.2 in
+      let to = filter_only (λ (to : ℕ). to == b) (successors from.0.instrs) kept.0 kept.1 in
+      let leads = flat_map_only (λ (instr : Instr). targets instr.op) from.0.instrs kept.0 to.0 in
+      let spot : Spot = record { block = from.0.id.0; instr = leads.0 } in
+      let in_it : Contains (spots f) spot =
+      flat_map_has block_spots f.blocks from.0 spot from.1
+      (map_has (λ (instr : Instr). record { block = from.0.id.0; instr = instr }) from.0.instrs leads.0 leads.1) in
+      let none : is_target f b ≡ false =
+      not-true (is_target f b) (holds_of_unless (not (is_target f b)) (BlockAt (record { 0 = b }))
+      (unbroken signatures f accepted 5 rule.EntryHasPredecessor refl)) in
+      let other = none_of_any (λ (one : Spot). list_any (λ to. to == b) (targets one.instr.op)) (spots f) spot none
+      in_it in
+      let apart = none_of_any (λ (to : ℕ). to == b) (targets leads.0.op) kept.0 other leads.2 in
+      true≢false (sym to.1 ∙ apart)
+
+  first_no_phi : (block : Block) → block_of f (entry f.blocks) ≡ Some block → (instr : Instr)
+      → slice_get block.instrs 0 ≡ Some instr → is_phi instr.op ≡ false
+  first_no_phi block at instr there =
+      elim (cases_Bool (is_phi instr.op)) [
+        | inl is ↦
+            let stands : StandsIn f (entry f.blocks) 0 block instr = record { block = at; instr = there } in
+            let phi = phi_parts instr.op is in
+            let formed : IsFormed (Phi phi.0 phi.1) = subst IsFormed phi.2
+            (facts_at signatures f made accepted (entry f.blocks) 0 block instr stands).formed.op in
+            let source = some_comes_in phi.1 (incoming f (entry f.blocks)) formed.1
+            (sources_lead (entry f.blocks) 0 block instr phi.0 phi.1 stands phi.2) in
+            absurd (none_comes_in source.0 source.1)
+        | inr other ↦ other
+      ]
+
+  pub entry_block : (block : Block) × (block_of f (entry f.blocks) ≡ Some block) × (leading_phis block.instrs ≡ [])
+  entry_block =
+      let first = first_block f.blocks made.some_block in
+      (first.0, first.1, none_leading first.0.instrs (first_no_phi first.0 first.1))
