@@ -1,5 +1,5 @@
 -- What the rules say of the instructions of an accepted function.
-use Rattle.std.proofs.Common.{◌≡◌, ℕ, zero, suc, ◌==◌, ◌<◌, ◌≤◌, Bool, true, false, cond, not, ◌||◌, List, [], ◌∷◌, ◌++◌, length, map, flat_map, filter, find, Option, Some, None, All, Contains, slice_get, refl, sym, ap, ◌∙◌, subst, inl, inr, arith}
+use Rattle.std.proofs.Common.{◌≡◌, ℕ, zero, suc, ◌==◌, ◌<◌, ◌≤◌, Bool, true, false, cond, not, ◌||◌, List, [], ◌∷◌, ◌++◌, length, map, flat_map, filter, Option, Some, None, Contains, slice_get, refl, sym, ap, ◌∙◌, subst, inl, inr, arith}
 use Rattle.std.specs.List.{list_any}
 use Rattle.std.proofs.lemmas.Bool.{eqb-true, not-false, true≢false, cases_Bool, cond-true, cond-false}
 use Rattle.std.proofs.lemmas.Option.{none-some, same_Some}
@@ -17,7 +17,7 @@ use Rattle.ir_model.specs.declared.rule.Rule.TheVariants as rule
 use Rattle.ir_model.specs.declared.rule.Place.{Place}
 use Rattle.ir_model.specs.declared.rule.Place.TheVariants.{BlockAt}
 use Rattle.ir_model.specs.Shapes.{entry, block_of, defined_blocks, targets, is_terminator, is_phi, leading_phis}
-use Rattle.ir_model.specs.Sites.{Site, UsesBlock, operand_sites, op_sites}
+use Rattle.ir_model.specs.Sites.{UsesBlock, operand_sites, op_sites}
 use Rattle.ir_model.specs.WellMade.{IsFormedInstr, AreFormed, IsWellMade}
 use Rattle.ir_meaning.proofs.LeadingPhis.{last_no_phi}
 use Rattle.ir_meaning.proofs.ListPlaces.{found_there}
@@ -239,7 +239,8 @@ module _ (signatures : Signatures) (f : Function) (made : IsWellMade f) (accepte
 
     leads_on : (to : ℕ) → Contains (targets instr.op) to → (there : Block) × (block_of f to ≡ Some there)
     leads_on to at =
-        let undefined : Spot → List Place = λ spot. flat_map (undefined_at signatures f spot) (op_sites spot.instr.op) in
+        let undefined : Spot → List Place = λ spot.
+        flat_map (undefined_at signatures f spot) (op_sites spot.instr.op) in
         let none = flat_map_none undefined (spots f) here (unbroken signatures f accepted 1 rule.UndefinedName refl)
         (spot_in f b i block instr stands) in
         let defined = flat_map_none (undefined_at signatures f here) (op_sites instr.op) (UsesBlock to) none

@@ -1,39 +1,32 @@
 -- Each name of an accepted function is defined once: a value at its place, and a block by its number.
-use Rattle.std.proofs.Common.{◌≡◌, ℕ, zero, suc, ◌==◌, ◌+◌, ◌<◌, ◌≤◌, Bool, true, false, cond, ◌||◌, List, [], ◌∷◌, ◌++◌, length, map, flat_map, find, position, count_by, get_or, if◌then◌else◌, Option, Some, None, Contains, slice_get, unwrap_or, option_map, refl, sym, ap, ◌∙◌, subst, inl, inr, arith}
+use Rattle.std.proofs.Common.{◌≡◌, ℕ, zero, suc, ◌==◌, ◌+◌, ◌<◌, ◌≤◌, Bool, true, false, cond, List, [], ◌∷◌, ◌++◌, map, flat_map, find, position, count_by, get_or, if◌then◌else◌, Option, Some, None, Contains, slice_get, refl, sym, ap, ◌∙◌, subst, inl, inr, arith}
 use Rattle.std.specs.List.{list_any}
 use Rattle.std.proofs.lemmas.Bool.{cases_Bool, cond-true, cond-false, eqb-true, eq-eqb, true≢false, false≢true, or_left, or_right}
-use Rattle.std.proofs.lemmas.Option.{none-some, same_Some, some_pair_parts, slice_get_cases, slice_get-get_or}
-use Rattle.std.proofs.lemmas.List.Elements.{All-contains, Contains-append_left, Contains-append_right}
+use Rattle.std.proofs.lemmas.Option.{none-some, same_Some, some_pair_parts, slice_get-get_or}
 use Rattle.std.proofs.lemmas.List.Folds.{Any-from_list_any, list_any_at}
 use Rattle.std.proofs.lemmas.List.Quantifiers.{position-Some}
 use Rattle.std.proofs.lemmas.List.Sums.{sum_by-cons, sum_by-append}
 use Rattle.scev_base.specs.declared.ids.ValueId.{ValueId}
 use Rattle.scev_base.specs.declared.ids.BlockId.{BlockId}
-use Rattle.ir_model.specs.declared.types.IrType.{IrType}
-use Rattle.ir_model.specs.declared.types.IrType.TheVariants.{Void}
 use Rattle.ir_model.specs.declared.function.Param.{Param}
 use Rattle.ir_model.specs.declared.function.Instr.{Instr}
 use Rattle.ir_model.specs.declared.function.Block.{Block}
 use Rattle.ir_model.specs.declared.function.Function.{Function}
-use Rattle.ir_model.specs.declared.function.ValueInfo.{ValueInfo}
 use Rattle.ir_model.specs.declared.signature.Signatures.{Signatures}
 use Rattle.ir_model.specs.declared.rule.Rule.TheVariants as rule
 use Rattle.ir_model.specs.declared.rule.Place.{Place}
 use Rattle.ir_model.specs.declared.rule.Place.TheVariants.{Value, BlockAt, UseIn, Item}
-use Rattle.ir_model.specs.Defined.{given_type, is_value, or_else, param_type, instr_type, block_type, type_of}
+use Rattle.ir_model.specs.Defined.{is_value}
 use Rattle.ir_model.specs.declared.op.Op.TheVariants.{Unreachable}
 use Rattle.ir_model.specs.Places.{in_block, given_at, is_param, place_of}
 use Rattle.ir_model.specs.Shapes.{block_of}
-use Rattle.ir_model.specs.Sites.{DefinesValue, DefinesBlock, result_sites, op_sites, instr_sites, block_sites, function_sites}
-use Rattle.ir_model.specs.WellMade.{IsInTable, HasIds, IsWellMade}
+use Rattle.ir_model.specs.WellMade.{IsWellMade}
 use Rattle.ir_meaning.proofs.ListPlaces.{contained_at}
 use Rattle.ir_rules.specs.Accepted.{IsAccepted}
 use Rattle.ir_rules.specs.Names.{same_place, result_place, block_definitions, definitions}
 use Rattle.ir_rules.specs.Spots.{repeated}
-use Rattle.ir_rules.specs.Types.{kind_of}
-use Rattle.never_stuck.proofs.Accepted.{unbroken, block_in}
-use Rattle.never_stuck.proofs.Elements.{contains_at, contains_more, map_has, flat_map_has}
-use Rattle.never_stuck.proofs.Sound.{StandsIn}
+use Rattle.never_stuck.proofs.Accepted.{unbroken}
+use Rattle.never_stuck.proofs.Elements.{contains_at, contains_more, flat_map_has}
 
 -- ---- counts
 
@@ -157,8 +150,13 @@ block_alone b (first ∷ blocks) (suc k) block once at is =
     let parts = count_append (is_of_block b) (block_definitions first) (block_places blocks) in
     elim (cases_Bool (first.id.0 == b)) [
       | inl here ↦
-          absurd (omega (arith, count_yes (is_of_block b) (BlockAt first.id) (result_places first.instrs) here, parts,
-          later, once))
+          absurd (omega (
+            arith,
+            count_yes (is_of_block b) (BlockAt first.id) (result_places first.instrs) here,
+            parts,
+            later,
+            once,
+          ))
       | inr other ↦
           cond-false (first.id.0 == b) (Some first) (find (λ (one : Block). one.id.0 == b) blocks) other
           ∙ block_alone b blocks k block (omega (arith, parts, once)) at is

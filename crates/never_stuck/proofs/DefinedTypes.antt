@@ -1,14 +1,9 @@
 -- A value of an accepted function has the type of what gives it, since that is its one definition.
-use Rattle.std.proofs.Common.{◌≡◌, ℕ, zero, suc, ◌==◌, ◌+◌, ◌<◌, ◌≤◌, Bool, true, false, cond, ◌||◌, List, [], ◌∷◌, ◌++◌, length, map, flat_map, find, position, count_by, get_or, if◌then◌else◌, Option, Some, None, Contains, slice_get, unwrap_or, option_map, refl, sym, ap, ◌∙◌, subst, inl, inr, arith}
-use Rattle.std.specs.List.{list_any}
-use Rattle.std.proofs.lemmas.Bool.{cases_Bool, cond-true, cond-false, eqb-true, eq-eqb, true≢false, false≢true, or_left, or_right}
-use Rattle.std.proofs.lemmas.Option.{none-some, same_Some, some_pair_parts, slice_get_cases, slice_get-get_or}
+use Rattle.std.proofs.Common.{◌≡◌, ℕ, zero, suc, ◌==◌, ◌+◌, ◌<◌, ◌≤◌, true, false, cond, List, [], ◌∷◌, length, map, flat_map, count_by, Option, Some, None, Contains, slice_get, unwrap_or, option_map, refl, sym, ap, ◌∙◌, subst, inl, inr, arith}
+use Rattle.std.proofs.lemmas.Bool.{cases_Bool, cond-true, eq-eqb}
+use Rattle.std.proofs.lemmas.Option.{none-some, same_Some, slice_get_cases}
 use Rattle.std.proofs.lemmas.List.Elements.{All-contains, Contains-append_left, Contains-append_right}
-use Rattle.std.proofs.lemmas.List.Folds.{Any-from_list_any, list_any_at}
-use Rattle.std.proofs.lemmas.List.Quantifiers.{position-Some}
-use Rattle.std.proofs.lemmas.List.Sums.{sum_by-cons, sum_by-append}
 use Rattle.scev_base.specs.declared.ids.ValueId.{ValueId}
-use Rattle.scev_base.specs.declared.ids.BlockId.{BlockId}
 use Rattle.ir_model.specs.declared.types.IrType.{IrType}
 use Rattle.ir_model.specs.declared.types.IrType.TheVariants.{Void}
 use Rattle.ir_model.specs.declared.function.Param.{Param}
@@ -18,20 +13,15 @@ use Rattle.ir_model.specs.declared.function.Function.{Function}
 use Rattle.ir_model.specs.declared.function.ValueInfo.{ValueInfo}
 use Rattle.ir_model.specs.declared.signature.Signatures.{Signatures}
 use Rattle.ir_model.specs.declared.rule.Rule.TheVariants as rule
-use Rattle.ir_model.specs.declared.rule.Place.{Place}
-use Rattle.ir_model.specs.declared.rule.Place.TheVariants.{Value, BlockAt, UseIn, Item}
+use Rattle.ir_model.specs.declared.rule.Place.TheVariants.{Value, BlockAt}
 use Rattle.ir_model.specs.Defined.{given_type, is_value, or_else, param_type, instr_type, block_type, type_of}
-use Rattle.ir_model.specs.declared.op.Op.TheVariants.{Unreachable}
-use Rattle.ir_model.specs.Places.{in_block, given_at, is_param, place_of}
-use Rattle.ir_model.specs.Shapes.{block_of}
 use Rattle.ir_model.specs.Sites.{DefinesValue, DefinesBlock, result_sites, op_sites, instr_sites, block_sites, function_sites}
 use Rattle.ir_model.specs.WellMade.{IsInTable, HasIds, IsWellMade}
 use Rattle.ir_meaning.proofs.ListPlaces.{contained_at}
 use Rattle.ir_rules.specs.Accepted.{IsAccepted}
-use Rattle.ir_rules.specs.Names.{same_place, result_place, block_definitions, definitions}
-use Rattle.ir_rules.specs.Spots.{repeated}
+use Rattle.ir_rules.specs.Names.{result_place, block_definitions}
 use Rattle.ir_rules.specs.Types.{kind_of}
-use Rattle.never_stuck.proofs.Accepted.{unbroken, block_in}
+use Rattle.never_stuck.proofs.Accepted.{block_in}
 use Rattle.never_stuck.proofs.DefinedOnce.{count_cons, count_append, count_yes, count_no, counted, is_of_value, param_places, result_places, block_places, value_once}
 use Rattle.never_stuck.proofs.Elements.{contains_at, contains_more, map_has, flat_map_has}
 use Rattle.never_stuck.proofs.Sound.{StandsIn}
@@ -90,8 +80,12 @@ module _ (v : ℕ) where
   not_given instr instrs none =
       elim (cases_Bool (is_value instr.result v)) [
         | inl gives ↦
-            absurd (omega (arith, count_instrs instr instrs, cond-true {A = ℕ} (is_value instr.result v) 1 0 gives,
-            none))
+            absurd (omega (
+              arith,
+              count_instrs instr instrs,
+              cond-true {A = ℕ} (is_value instr.result v) 1 0 gives,
+              none,
+            ))
         | inr other ↦ (other, omega (arith, count_instrs instr instrs, none))
       ]
 
@@ -125,8 +119,12 @@ module _ (v : ℕ) where
       (map_has (λ (q : Param). Value q.value) params p (contains_at params k p at)) (eq-eqb p.value.0 v is) in
       elim (cases_Bool (first.value.0 == v)) [
         | inl here ↦
-            absurd (omega (arith, count_yes (is_of_value v) (Value first.value) (param_places params) here, later,
-            once))
+            absurd (omega (
+              arith,
+              count_yes (is_of_value v) (Value first.value) (param_places params) here,
+              later,
+              once,
+            ))
         | inr other ↦
             let rest = count_no (is_of_value v) (Value first.value) (param_places params) other in
             rw other (one_param_type params k p (omega (arith, rest, once)) at is)
@@ -145,8 +143,13 @@ module _ (v : ℕ) where
       let later = given_in instrs i instr at gives in
       elim (cases_Bool (is_value first.result v)) [
         | inl here ↦
-            absurd (omega (arith, count_instrs first instrs, cond-true {A = ℕ} (is_value first.result v) 1 0 here,
-            later, once))
+            absurd (omega (
+              arith,
+              count_instrs first instrs,
+              cond-true {A = ℕ} (is_value first.result v) 1 0 here,
+              later,
+              once,
+            ))
         | inr other ↦
             rw other (one_instr_type instrs i instr (omega (arith, count_instrs first instrs, once)) at gives)
       ]

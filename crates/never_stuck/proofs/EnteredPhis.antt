@@ -1,5 +1,5 @@
 -- A phi of an accepted function has an entry for each edge that leads to its block, and the first block has no phi.
-use Rattle.std.proofs.Common.{◌≡◌, ◌≢◌, ℕ, zero, suc, ◌==◌, ◌<◌, Bool, true, false, not, List, [], ◌∷◌, ◌++◌, length, map, flat_map, filter, find, count_by, Option, Some, None, Contains, slice_get, option_map, refl, sym, ap, ◌∙◌, subst, inl, inr, arith}
+use Rattle.std.proofs.Common.{◌≡◌, ◌≢◌, ℕ, ◌==◌, ◌<◌, Bool, true, false, not, List, [], ◌∷◌, ◌++◌, map, filter, find, count_by, Option, Some, Contains, slice_get, option_map, refl, sym, ap, ◌∙◌, subst, inl, inr, arith}
 use Rattle.std.specs.List.{list_any}
 use Rattle.std.proofs.lemmas.Bool.{cases_Bool, cond-true, eqb-true, eq-eqb, not-true, true≢false, false≢true, and_parts, or_left, or_right}
 use Rattle.std.proofs.lemmas.List.Elements.{Contains-append_left, Contains-append_right}
@@ -79,9 +79,11 @@ entry_of entries coming same a there =
 first_block : (blocks : List Block) → blocks ≢ []
     → (block : Block) × (find (λ (one : Block). one.id.0 == entry blocks) blocks ≡ Some block)
 first_block [] some = absurd (some refl)
-first_block (block ∷ blocks) some =
-    (block, cond-true (block.id.0 == block.id.0) (Some block)
-    (find (λ (one : Block). one.id.0 == block.id.0) blocks) (eq-eqb block.id.0 block.id.0 refl))
+first_block (block ∷ blocks) some = (
+  block,
+  cond-true (block.id.0 == block.id.0) (Some block)
+      (find (λ (one : Block). one.id.0 == block.id.0) blocks) (eq-eqb block.id.0 block.id.0 refl),
+)
 
 -- a phi, by what it is made of
 phi_parts : (op : Op) → is_phi op ≡ true → (kind : IrType) × (entries : List PhiEntry) × (op ≡ Phi kind entries)
