@@ -3,7 +3,7 @@
 use Rattle.std.proofs.Common.{◌≡◌, ◌≢◌, ℕ, suc, ◌+◌, ◌%◌, ◌^◌, ◌<◌, ◌≤◌, Bool, true, false, cond, not, ◌&&◌, ◌||◌, List, [], ◌∷◌, length, map, Option, Some, None, Contains, ◌⊎◌, inl, inr, refl, ap, sym, ◌∙◌, arith}
 use Rattle.std.specs.Prelude.{◌==◌, IsTrue, is_some}
 use Rattle.std.specs.List.{list_all, list_any}
-use Rattle.std.proofs.lemmas.Bool.{and_parts, eqb-true, false≢true, not-true}
+use Rattle.std.proofs.lemmas.Bool.{and_parts, eqb-true, false≢true, true≢false}
 use Rattle.scev_base.specs.Residue.{residue}
 use Rattle.scev_base.specs.declared.pred.Pred.{Pred}
 use Rattle.scev_base.specs.declared.pred.Pred.TheVariants as pred
@@ -27,7 +27,7 @@ use Rattle.ir_model.specs.Defined.{given_type}
 use Rattle.ir_model.specs.Kinds.{IsScalar}
 use Rattle.ir_model.specs.Shapes.{operands, targets, is_terminator, is_phi}
 use Rattle.ir_model.specs.WellMade.{IsFormed}
-use Rattle.ir_rules.specs.Types.{kind_of, same_type, fits, is_int, wanted, operands_fit, types_agree, types_fit, is_wide, converts, widths_fit}
+use Rattle.ir_rules.specs.Types.{kind_of, same_type, fits, is_int, at_type, wanted, operands_fit, types_agree, types_fit, is_wide, converts, widths_fit}
 use Rattle.ir_rules.specs.Values.{is_equality, misuses_pointer, same_types, kinds_of, is_min_max_of, call_fits}
 use Rattle.ir_meaning.specs.declared.value.Value.{Value}
 use Rattle.ir_meaning.specs.declared.value.Value.TheVariants as value
@@ -97,3 +97,93 @@ operand_typed f registers n Ptr operand.Poison scalar fit held = (value.Poison, 
 operand_typed f registers n Ptr (operand.Num z) scalar fit held = absurd (false≢true fit)
 operand_typed f registers n Void value scalar fit held = absurd scalar
 operand_typed f registers n (Array dims w) value scalar fit held = absurd scalar
+
+first_held : (f : Function) (registers : Registers) (value : Operand) (rest : List Operand) → HoldsOperands f registers (value ∷ rest) → HoldsIn f registers value
+first_held f registers value rest held v is = held v (0, omega arith, is)
+
+rest_held : (f : Function) (registers : Registers) (value : Operand) (rest : List Operand) → HoldsOperands f registers (value ∷ rest) → HoldsOperands f registers rest
+rest_held f registers value rest held v inside = held v (suc inside.0, omega (arith, inside.1), inside.2)
+
+first_typed : (f : Function) (registers : Registers) (n : ℕ) (kind : IrType) (value : Operand) (others : List Operand) (more : Bool) → IsScalar kind → (fits f kind value && more) ≡ true → HoldsOperands f registers (value ∷ others) → Typed registers n kind value
+first_typed f registers n kind value others more scalar fit held =
+    operand_typed f registers n kind value scalar (and_parts (fits f kind value) more fit).0 (first_held f registers value others held)
+
+-- ---- what is computed
+
+-- It gives a value of the type, or its behaviour is undefined.
+abbrev Given : IrType → Computed → Type 0
+Given kind outcome = ((x : Value) × (outcome ≡ Gives x) × (is_of_type kind x ≡ true)) ⊎ (outcome ≡ Fails phase.Undefined)
+
+gives_typed : (kind : IrType) (x : Value) → is_of_type kind x ≡ true → Given kind (Gives x)
+gives_typed kind x typed = inl (x, refl, typed)
+
+given_typed : (kind : IrType) (row : Option Value) → ((z : Value) → row ≡ Some z → is_of_type kind z ≡ true) → Given kind (given row)
+given_typed kind None each = inr refl
+given_typed kind (Some z) each = inl (z, refl, each z refl)
+
+either_given : (kind : IrType) (first : Bool) (x y : Computed) → Given kind x → Given kind y → Given kind (cond first x y)
+either_given kind true x y left right = left
+either_given kind false x y left right = right
+
+-- What follows from an operand is so where it follows so from each value of its type.
+with_typed : (registers : Registers) (n : ℕ) (kind out : IrType) (value : Operand) (what : Value → Computed) → Typed registers n kind value → ((x : Value) → is_of_type kind x ≡ true → Given out (what x)) → Given out (with_value (operand_value registers n kind value) what)
+with_typed registers n kind out value what typed each = rw typed.1 (each typed.0 typed.2)
+
+with_two : (registers : Registers) (n : ℕ) (kind out : IrType) (left right : Operand) (what : Value → Value → Computed) → Typed registers n kind left → Typed registers n kind right → ((a b : Value) → is_of_type kind a ≡ true → is_of_type kind b ≡ true → Given out (what a b)) → Given out (with_value (operand_value registers n kind left) (λ a. with_value (operand_value registers n kind right) (λ b. what a b)))
+with_two registers n kind out left right what first second each =
+    with_typed registers n kind out left (λ a. with_value (operand_value registers n kind right) (λ b. what a b)) first (λ a p.
+        with_typed registers n kind out right (λ b. what a b) second (λ b q. each a b p q))
+
+-- two operands of one type
+of_two : (f : Function) (registers : Registers) (n : ℕ) (kind out : IrType) (left right : Operand) (what : Value → Value → Computed) → IsScalar kind → operands_fit f (at_type kind left ∷ at_type kind right ∷ []) ≡ true → HoldsOperands f registers (left ∷ right ∷ []) → ((a b : Value) → is_of_type kind a ≡ true → is_of_type kind b ≡ true → Given out (what a b)) → Given out (with_value (operand_value registers n kind left) (λ a. with_value (operand_value registers n kind right) (λ b. what a b)))
+of_two f registers n kind out left right what scalar fit held each =
+    let second = (and_parts (fits f kind left) (fits f kind right && true) fit).1 in
+    with_two registers n kind out left right what
+    (first_typed f registers n kind left (right ∷ []) (fits f kind right && true) scalar fit held)
+    (first_typed f registers n kind right [] true scalar second (rest_held f registers left (right ∷ []) held)) each
+
+binary_given : (f : Function) (registers : Registers) (n : ℕ) (op : BinOp) (nuw nsw exact disjoint : Bool) (kind : IrType) (left right : Operand) → types_fit f (Binary op nuw nsw exact disjoint kind left right) ≡ true → HoldsOperands f registers (left ∷ right ∷ []) → Given kind (computed registers n (Binary op nuw nsw exact disjoint kind left right))
+binary_given f registers n op nuw nsw exact disjoint (Int w) left right types held =
+    of_two f registers n (Int w) (Int w) left right (λ a b. given (binary_row op nuw nsw exact disjoint w a b)) tt types held (λ a b p q.
+        given_typed (Int w) (binary_row op nuw nsw exact disjoint w a b) (λ z is. binary_typed op nuw nsw exact disjoint w a b z p q is))
+binary_given f registers n op nuw nsw exact disjoint Ptr left right types held = absurd (false≢true types)
+binary_given f registers n op nuw nsw exact disjoint Void left right types held = absurd (false≢true types)
+binary_given f registers n op nuw nsw exact disjoint (Array dims w) left right types held = absurd (false≢true types)
+
+pointers_given : (f : Function) (registers : Registers) (n : ℕ) (equal : Bool) (left right : Operand) → operands_fit f (at_type Ptr left ∷ at_type Ptr right ∷ []) ≡ true → HoldsOperands f registers (left ∷ right ∷ []) → Given (Int 1) (with_value (operand_value registers n Ptr left) (λ a. with_value (operand_value registers n Ptr right) (λ b. Gives (compared_pointers equal n a b))))
+pointers_given f registers n equal left right types held =
+    of_two f registers n Ptr (Int 1) left right (λ a b. Gives (compared_pointers equal n a b)) tt types held (λ a b p q.
+        gives_typed (Int 1) (compared_pointers equal n a b) (pointers_typed equal n a b))
+
+icmp_given : (f : Function) (registers : Registers) (n : ℕ) (pred : Pred) (kind : IrType) (left right : Operand) → IsScalar kind → operands_fit f (at_type kind left ∷ at_type kind right ∷ []) ≡ true → misuses_pointer (Icmp pred kind left right) ≡ false → HoldsOperands f registers (left ∷ right ∷ []) → Given (Int 1) (computed registers n (Icmp pred kind left right))
+icmp_given f registers n pred (Int w) left right scalar types pointers held =
+    of_two f registers n (Int w) (Int 1) left right (λ a b. Gives (on_numbers (compared pred w) a b)) tt types held (λ a b p q.
+        gives_typed (Int 1) (on_numbers (compared pred w) a b) (compared_typed pred w a b p q))
+icmp_given f registers n pred.Eq Ptr left right scalar types pointers held = pointers_given f registers n true left right types held
+icmp_given f registers n pred.Ne Ptr left right scalar types pointers held = pointers_given f registers n false left right types held
+icmp_given f registers n pred.Ugt Ptr left right scalar types pointers held = absurd (true≢false pointers)
+icmp_given f registers n pred.Uge Ptr left right scalar types pointers held = absurd (true≢false pointers)
+icmp_given f registers n pred.Ult Ptr left right scalar types pointers held = absurd (true≢false pointers)
+icmp_given f registers n pred.Ule Ptr left right scalar types pointers held = absurd (true≢false pointers)
+icmp_given f registers n pred.Sgt Ptr left right scalar types pointers held = absurd (true≢false pointers)
+icmp_given f registers n pred.Sge Ptr left right scalar types pointers held = absurd (true≢false pointers)
+icmp_given f registers n pred.Slt Ptr left right scalar types pointers held = absurd (true≢false pointers)
+icmp_given f registers n pred.Sle Ptr left right scalar types pointers held = absurd (true≢false pointers)
+icmp_given f registers n pred Void left right scalar types pointers held = absurd scalar
+icmp_given f registers n pred (Array dims w) left right scalar types pointers held = absurd scalar
+
+leads_to_int : (op : CastOp) (from to : IrType) → converts op from to ≡ true → is_int to ≡ true
+leads_to_int cast.Zext from to wider = (and_parts (is_int to) _ wider).0
+leads_to_int cast.Sext from to wider = (and_parts (is_int to) _ wider).0
+leads_to_int cast.Trunc from to wider = (and_parts (is_int to) _ wider).0
+
+cast_given : (f : Function) (registers : Registers) (n : ℕ) (op : CastOp) (nneg : Bool) (from to : IrType) (value : Operand) → types_fit f (Cast op nneg from value to) ≡ true → converts op from to ≡ true → is_int to ≡ true → HoldsOperands f registers (value ∷ []) → Given to (computed registers n (Cast op nneg from value to))
+cast_given f registers n op nneg (Int v) (Int w) value types wider int held =
+    with_typed registers n (Int v) (Int w) value (λ x. Gives (converted op nneg v w x)) (first_typed f registers n (Int v) value [] true tt types held) (λ x p.
+        gives_typed (Int w) (converted op nneg v w x) (converted_typed op nneg v w x wider p))
+cast_given f registers n op nneg (Int v) Ptr value types wider int held = absurd (false≢true int)
+cast_given f registers n op nneg (Int v) Void value types wider int held = absurd (false≢true int)
+cast_given f registers n op nneg (Int v) (Array dims w) value types wider int held = absurd (false≢true int)
+cast_given f registers n op nneg Ptr to value types wider int held = absurd (false≢true types)
+cast_given f registers n op nneg Void to value types wider int held = absurd (false≢true types)
+cast_given f registers n op nneg (Array dims w) to value types wider int held = absurd (false≢true types)
