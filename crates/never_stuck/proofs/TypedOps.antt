@@ -1,6 +1,6 @@
 -- What an operation gives is a value of its type, or its behaviour is undefined, where the registers that it reads hold
 -- values of their types; and a terminator leads to one of its targets, or the run ends.
-use Rattle.std.proofs.Common.{◌≡◌, ◌≢◌, ℕ, suc, ◌+◌, ◌%◌, ◌^◌, ◌<◌, ◌≤◌, Bool, true, false, cond, not, ◌&&◌, ◌||◌, List, [], ◌∷◌, length, map, Option, Some, None, Contains, ◌⊎◌, inl, inr, refl, ap, sym, ◌∙◌, arith}
+use Rattle.std.proofs.Common.{◌≡◌, ◌≢◌, ℕ, suc, ◌+◌, ◌%◌, ◌^◌, ◌<◌, ◌≤◌, Bool, true, false, cond, not, ◌&&◌, ◌||◌, List, [], ◌∷◌, length, map, Option, Some, None, Contains, ◌⊎◌, inl, inr, refl, ap, sym, subst, arith}
 use Rattle.std.specs.Prelude.{◌==◌, IsTrue, is_some}
 use Rattle.std.specs.List.{list_all, list_any}
 use Rattle.std.proofs.lemmas.Bool.{and_parts, eqb-true, false≢true, true≢false}
@@ -187,3 +187,89 @@ cast_given f registers n op nneg (Int v) (Array dims w) value types wider int he
 cast_given f registers n op nneg Ptr to value types wider int held = absurd (false≢true types)
 cast_given f registers n op nneg Void to value types wider int held = absurd (false≢true types)
 cast_given f registers n op nneg (Array dims w) to value types wider int held = absurd (false≢true types)
+
+-- an arm of a `select`, which has the type of the first one
+arm_given : (registers : Registers) (n : ℕ) (out : IrType) (typed : TypedOperand) → typed.kind ≡ out → Typed registers n typed.kind typed.value → Given out (arm_value registers n typed)
+arm_given registers n out typed is has =
+    with_typed registers n typed.kind out typed.value Gives has (λ x p.
+        gives_typed out x (subst (λ (kind : IrType). is_of_type kind x ≡ true) is p))
+
+arms_given : (registers : Registers) (n : ℕ) (out : IrType) (left right : TypedOperand) (test : Value) → IsScalar out → Given out (arm_value registers n left) → Given out (arm_value registers n right) → Given out (chosen_arm registers n left right test)
+arms_given registers n out left right (value.Number c) scalar first second =
+    either_given out (c == 0) (arm_value registers n right) (arm_value registers n left) second first
+arms_given registers n out left right (value.Pointer block offset) scalar first second =
+    gives_typed out value.Poison (poison_typed out scalar)
+arms_given registers n out left right value.Null scalar first second =
+    gives_typed out value.Poison (poison_typed out scalar)
+arms_given registers n out left right value.Poison scalar first second =
+    gives_typed out value.Poison (poison_typed out scalar)
+
+select_given : (f : Function) (registers : Registers) (n : ℕ) (test : Operand) (left right : TypedOperand) → IsScalar left.kind → IsScalar right.kind → types_fit f (Select test left right) ≡ true → HoldsOperands f registers (test ∷ left.value ∷ right.value ∷ []) → Given left.kind (computed registers n (Select test left right))
+select_given f registers n test left right one other types held =
+    let agree = and_parts (same_type left.kind right.kind) (operands_fit f (wanted (Select test left right))) types in
+    let arms = (and_parts (fits f (Int 1) test) (operands_fit f (left ∷ right ∷ [])) agree.1).1 in
+    let last = (and_parts (fits f left.kind left.value) (operands_fit f (right ∷ [])) arms).1 in
+    let behind = rest_held f registers test (left.value ∷ right.value ∷ []) held in
+    let first = first_typed f registers n left.kind left.value (right.value ∷ []) (operands_fit f (right ∷ [])) one arms behind in
+    let second = first_typed f registers n right.kind right.value [] true other last (rest_held f registers left.value (right.value ∷ []) behind) in
+    with_typed registers n (Int 1) left.kind test (λ c. chosen_arm registers n left right c)
+    (first_typed f registers n (Int 1) test (left.value ∷ right.value ∷ []) (operands_fit f (left ∷ right ∷ [])) tt agree.1 held) (λ c p.
+        arms_given registers n left.kind left right c one
+        (arm_given registers n left.kind left refl first)
+        (arm_given registers n left.kind right (sym (same_scalar left.kind right.kind one agree.0)) second))
+
+-- ---- calls of minima and maxima
+
+same_as_int : (kind : IrType) (w : ℕ) → same_type kind (Int w) ≡ true → kind ≡ Int w
+same_as_int (Int v) w same = ap (λ (k : ℕ). Int k) (eqb-true v w same)
+same_as_int Ptr w same = absurd (false≢true same)
+same_as_int Void w same = absurd (false≢true same)
+same_as_int (Array dims v) w same = absurd (false≢true same)
+
+called_given : (registers : Registers) (n w : ℕ) (named : Option MinMax) (left right : Operand) → is_some named ≡ true → Typed registers n (Int w) left → Typed registers n (Int w) right → Given (Int w) (called registers n w named left right)
+called_given registers n w None left right is first second = absurd (false≢true is)
+called_given registers n w (Some kind) left right is first second =
+    with_two registers n (Int w) (Int w) left right (λ a b. Gives (on_numbers (min_max_row kind w) a b)) first second (λ a b p q.
+        gives_typed (Int w) (on_numbers (min_max_row kind w) a b) (min_max_typed kind w a b p q))
+
+-- an argument of the type of the call
+arg_typed : (f : Function) (registers : Registers) (n w : ℕ) (arg : TypedOperand) (rest : List Operand) (more others : Bool) → (same_type arg.kind (Int w) && others) ≡ true → (fits f arg.kind arg.value && more) ≡ true → HoldsOperands f registers (arg.value ∷ rest) → Typed registers n (Int w) arg.value
+arg_typed f registers n w arg rest more others same fit held =
+    let is = same_as_int arg.kind w (and_parts (same_type arg.kind (Int w)) others same).0 in
+    let stands = subst (λ (kind : IrType). (fits f kind arg.value && more) ≡ true) is fit in
+    first_typed f registers n (Int w) arg.value rest more tt stands held
+
+values_of : List TypedOperand → List Operand
+values_of args = map (λ (typed : TypedOperand). typed.value) args
+
+two_args_given : (f : Function) (registers : Registers) (n w : ℕ) (callee : List ℕ) (args : List TypedOperand) → is_some (min_max_named callee) ≡ true → same_types (kinds_of args) (Int w ∷ Int w ∷ []) ≡ true → operands_fit f args ≡ true → HoldsOperands f registers (values_of args) → Given (Int w) (computed registers n (Call (Int w) callee args))
+unfolding values_of
+two_args_given f registers n w callee (left ∷ right ∷ []) is same fit held =
+    let second = (and_parts (same_type left.kind (Int w)) (same_type right.kind (Int w) && true) same).1 in
+    let fit' = (and_parts (fits f left.kind left.value) (fits f right.kind right.value && true) fit).1 in
+    called_given registers n w (min_max_named callee) left.value right.value is
+    (arg_typed f registers n w left (right.value ∷ []) (fits f right.kind right.value && true) (same_type right.kind (Int w) && true) same fit held)
+    (arg_typed f registers n w right [] true true second fit' (rest_held f registers left.value (right.value ∷ []) held))
+two_args_given f registers n w callee [] is same fit held = absurd (false≢true same)
+two_args_given f registers n w callee (left ∷ []) is same fit held =
+    absurd (false≢true (and_parts (same_type left.kind (Int w)) false same).1)
+two_args_given f registers n w callee (left ∷ right ∷ more ∷ args) is same fit held =
+    let second = (and_parts (same_type left.kind (Int w)) (same_type right.kind (Int w) && false) same).1 in
+    absurd (false≢true (and_parts (same_type right.kind (Int w)) false second).1)
+
+needed : (is fit : Bool) → is ≡ true → (not is || fit) ≡ true → fit ≡ true
+needed true fit given both = both
+needed false fit given both = absurd (false≢true given)
+
+call_of_kind : (f : Function) (registers : Registers) (n : ℕ) (ret : IrType) (callee : List ℕ) (args : List TypedOperand) → is_some (min_max_named callee) ≡ true → is_min_max_of ret callee ≡ true → same_types (kinds_of args) (ret ∷ ret ∷ []) ≡ true → operands_fit f args ≡ true → HoldsOperands f registers (values_of args) → Given ret (computed registers n (Call ret callee args))
+call_of_kind f registers n (Int w) callee args is named same fit held = two_args_given f registers n w callee args is same fit held
+call_of_kind f registers n Ptr callee args is named same fit held = absurd (false≢true named)
+call_of_kind f registers n Void callee args is named same fit held = absurd (false≢true named)
+call_of_kind f registers n (Array dims w) callee args is named same fit held = absurd (false≢true named)
+
+call_given : (signatures : Signatures) (f : Function) (registers : Registers) (n : ℕ) (ret : IrType) (callee : List ℕ) (args : List TypedOperand) → is_some (min_max_named callee) ≡ true → call_fits signatures (Call ret callee args) ≡ true → operands_fit f args ≡ true → HoldsOperands f registers (values_of args) → Given ret (computed registers n (Call ret callee args))
+call_given signatures f registers n ret callee args is calls fit held =
+    let agrees = is_min_max_of ret callee && same_types (kinds_of args) (ret ∷ ret ∷ []) in
+    let both = needed (is_min_max callee) agrees is (and_parts (not (is_min_max callee) || agrees) _ calls).0 in
+    let parts = and_parts (is_min_max_of ret callee) (same_types (kinds_of args) (ret ∷ ret ∷ [])) both in
+    call_of_kind f registers n ret callee args is parts.0 parts.1 fit held
