@@ -1,9 +1,10 @@
 -- What an operation gives is a value of its type, or its behaviour is undefined, where the registers that it reads hold
 -- values of their types; and a terminator leads to one of its targets, or the run ends.
-use Rattle.std.proofs.Common.{◌≡◌, ◌≢◌, ℕ, suc, ◌+◌, ◌%◌, ◌^◌, ◌<◌, ◌≤◌, Bool, true, false, cond, not, ◌&&◌, ◌||◌, List, [], ◌∷◌, length, map, Option, Some, None, Contains, ◌⊎◌, inl, inr, refl, ap, sym, subst, arith}
+use Rattle.std.proofs.Common.{◌≡◌, ◌≢◌, ℕ, zero, suc, ◌+◌, ◌%◌, ◌^◌, ◌<◌, ◌≤◌, Bool, true, false, cond, not, ◌&&◌, ◌||◌, List, [], ◌∷◌, length, map, Option, Some, None, Contains, ◌⊎◌, inl, inr, refl, ap, sym, subst, arith}
 use Rattle.std.specs.Prelude.{◌==◌, IsTrue, is_some}
 use Rattle.std.specs.List.{list_all, list_any}
 use Rattle.std.proofs.lemmas.Bool.{and_parts, eqb-true, false≢true, true≢false}
+use Rattle.scev_base.specs.declared.ids.BlockId.{BlockId}
 use Rattle.scev_base.specs.Residue.{residue}
 use Rattle.scev_base.specs.declared.pred.Pred.{Pred}
 use Rattle.scev_base.specs.declared.pred.Pred.TheVariants as pred
@@ -273,3 +274,130 @@ call_given signatures f registers n ret callee args is calls fit held =
     let both = needed (is_min_max callee) agrees is (and_parts (not (is_min_max callee) || agrees) _ calls).0 in
     let parts = and_parts (is_min_max_of ret callee) (same_types (kinds_of args) (ret ∷ ret ∷ [])) both in
     call_of_kind f registers n ret callee args is parts.0 parts.1 fit held
+
+-- ---- all operations that are computed
+
+op_given : (signatures : Signatures) (f : Function) (registers : Registers) (n : ℕ) (op : Op) → IsFormed op → types_fit f op ≡ true → widths_fit op ≡ true → misuses_pointer op ≡ false → call_fits signatures op ≡ true → IsBuiltOp op → is_terminator op ≡ false → is_phi op ≡ false → HoldsOperands f registers (operands op) → Given (given_type op) (computed registers n op)
+unfolding values_of
+op_given signatures f registers n (Binary op nuw nsw exact disjoint kind left right) formed types widths pointers calls built ends phi held =
+    binary_given f registers n op nuw nsw exact disjoint kind left right types held
+op_given signatures f registers n (Icmp pred kind left right) formed types widths pointers calls built ends phi held =
+    icmp_given f registers n pred kind left right formed types pointers held
+op_given signatures f registers n (Cast op nneg from value to) formed types widths pointers calls built ends phi held =
+    let wider = (and_parts (is_wide from && is_wide to) (converts op from to) widths).1 in
+    cast_given f registers n op nneg from to value types wider (leads_to_int op from to wider) held
+op_given signatures f registers n (Select test left right) formed types widths pointers calls built ends phi held =
+    select_given f registers n test left right formed.0 formed.1 types held
+op_given signatures f registers n (Call ret callee args) formed types widths pointers calls built ends phi held =
+    call_given signatures f registers n ret callee args built calls types held
+op_given signatures f registers n (Phi kind entries) formed types widths pointers calls built ends phi held = absurd (true≢false phi)
+op_given signatures f registers n (Freeze kind value) formed types widths pointers calls built ends phi held = absurd built
+op_given signatures f registers n (Alloca kind) formed types widths pointers calls built ends phi held = absurd built
+op_given signatures f registers n (Load kind from) formed types widths pointers calls built ends phi held = absurd built
+op_given signatures f registers n (Store kind value to) formed types widths pointers calls built ends phi held = absurd built
+op_given signatures f registers n (Gep inbounds kind base indices) formed types widths pointers calls built ends phi held = absurd built
+op_given signatures f registers n (Jump to) formed types widths pointers calls built ends phi held = absurd (true≢false ends)
+op_given signatures f registers n (Branch test there other) formed types widths pointers calls built ends phi held = absurd (true≢false ends)
+op_given signatures f registers n (Switch kind value other cases) formed types widths pointers calls built ends phi held = absurd (true≢false ends)
+op_given signatures f registers n (Ret value) formed types widths pointers calls built ends phi held = absurd (true≢false ends)
+op_given signatures f registers n Unreachable formed types widths pointers calls built ends phi held = absurd (true≢false ends)
+
+pub computed_typed : (signatures : Signatures) (f : Function) (b : ℕ) (instr : Instr) (registers : Registers) (n : ℕ) → Facts signatures f b instr → IsBuiltOp instr.op → is_terminator instr.op ≡ false → is_phi instr.op ≡ false → HoldsOperands f registers (operands instr.op) → ((x : Value) × (computed registers n instr.op ≡ Gives x) × (is_of_type (given_type instr.op) x ≡ true)) ⊎ (computed registers n instr.op ≡ Fails phase.Undefined)
+computed_typed signatures f b instr registers n facts built ends phi held =
+    op_given signatures f registers n instr.op facts.formed.op facts.types facts.widths facts.pointers facts.calls built ends phi held
+
+-- ---- terminators
+
+-- It leads to one of the blocks, or the run ends, and isn't stuck.
+abbrev Leads : List ℕ → Way → Type 0
+Leads blocks outcome =
+    ((to : ℕ) × (outcome ≡ Enters to) × Contains blocks to)
+    ⊎ ((how : Phase) × (outcome ≡ Leaves how) × (how ≢ phase.Stuck) × (how ≢ phase.Running))
+
+enters : (blocks : List ℕ) (to : ℕ) → Contains blocks to → Leads blocks (Enters to)
+enters blocks to inside = inl (to, refl, inside)
+
+undefined : (blocks : List ℕ) → Leads blocks (Leaves phase.Undefined)
+undefined blocks = inr (phase.Undefined, refl, (λ is. absurd cc), (λ is. absurd cc))
+
+returned : (blocks : List ℕ) (answer : Option Value) → Leads blocks (Leaves (phase.Returned answer))
+returned blocks answer = inr (phase.Returned answer, refl, (λ is. absurd cc), (λ is. absurd cc))
+
+contains_first : (x : ℕ) (xs : List ℕ) → Contains (x ∷ xs) x
+contains_first x xs = (0, omega arith, refl)
+
+contains_more : (y x : ℕ) (xs : List ℕ) → Contains xs x → Contains (y ∷ xs) x
+contains_more y x xs inside = (suc inside.0, omega (arith, inside.1), inside.2)
+
+by_typed : (registers : Registers) (n : ℕ) (kind : IrType) (value : Operand) (blocks : List ℕ) (what : Value → Way) → Typed registers n kind value → ((x : Value) → Leads blocks (what x)) → Leads blocks (by_value (operand_value registers n kind value) what)
+by_typed registers n kind value blocks what typed each = rw typed.1 (each typed.0)
+
+one_target : (first : Bool) (there other : ℕ) → Contains (there ∷ other ∷ []) (cond first other there)
+one_target true there other = contains_more there other (other ∷ []) (contains_first other [])
+one_target false there other = contains_first there (other ∷ [])
+
+branch_leads : (test : Value) (there other : ℕ) → Leads (there ∷ other ∷ []) (branched test there other)
+branch_leads (value.Number n) there other =
+    enters (there ∷ other ∷ []) (cond (n == 0) other there) (one_target (n == 0) there other)
+branch_leads (value.Pointer block offset) there other = undefined (there ∷ other ∷ [])
+branch_leads value.Null there other = undefined (there ∷ other ∷ [])
+branch_leads value.Poison there other = undefined (there ∷ other ∷ [])
+
+-- the blocks of a `switch`, the other one first
+abbrev blocks_of : ℕ → List Case → List ℕ
+blocks_of other cases = other ∷ map (λ (one : Case). one.to.0) cases
+
+-- one more case adds a block
+one_more : (other to x : ℕ) (rest : List ℕ) → Contains (other ∷ rest) x → Contains (other ∷ to ∷ rest) x
+one_more other to x rest (zero, less, is) = (0, omega arith, is)
+one_more other to x rest (suc k, less, is) = (suc (suc k), omega (arith, less), is)
+
+this_or_later : (first : Bool) (other to x : ℕ) (rest : List ℕ) → Contains (other ∷ rest) x → Contains (other ∷ to ∷ rest) (cond first to x)
+this_or_later true other to x rest later = contains_more other to (to ∷ rest) (contains_first to rest)
+this_or_later false other to x rest later = one_more other to x rest later
+
+case_leads : (w : ℕ) (cases : List Case) (other x : ℕ) → Contains (blocks_of other cases) (case_target w cases other x)
+case_leads w [] other x = contains_first other []
+case_leads w (one ∷ cases) other x =
+    this_or_later (residue w one.number == x) other one.to.0 (case_target w cases other x) (map (λ (one : Case). one.to.0) cases) (case_leads w cases other x)
+
+switch_leads : (w : ℕ) (cases : List Case) (other : ℕ) (x : Value) → Leads (blocks_of other cases) (switched w cases other x)
+switch_leads w cases other (value.Number x) =
+    enters (blocks_of other cases) (case_target w cases other x) (case_leads w cases other x)
+switch_leads w cases other (value.Pointer block offset) = undefined (blocks_of other cases)
+switch_leads w cases other value.Null = undefined (blocks_of other cases)
+switch_leads w cases other value.Poison = undefined (blocks_of other cases)
+
+int_switch : (f : Function) (registers : Registers) (n : ℕ) (kind : IrType) (value : Operand) (other : BlockId) (cases : List Case) → types_fit f (Switch kind value other cases) ≡ true → HoldsOperands f registers (value ∷ []) → Leads (blocks_of other.0 cases) (way registers n (Switch kind value other cases))
+int_switch f registers n (Int w) value other cases types held =
+    let fit = (and_parts (types_agree (Switch (Int w) value other cases)) (operands_fit f (wanted (Switch (Int w) value other cases))) types).1 in
+    by_typed registers n (Int w) value (blocks_of other.0 cases) (λ x. switched w cases other.0 x) (first_typed f registers n (Int w) value [] _ tt fit held) (λ x. switch_leads w cases other.0 x)
+int_switch f registers n Ptr value other cases types held = absurd (false≢true types)
+int_switch f registers n Void value other cases types held = absurd (false≢true types)
+int_switch f registers n (Array dims w) value other cases types held = absurd (false≢true types)
+
+op_leads : (f : Function) (registers : Registers) (n : ℕ) (op : Op) → IsFormed op → types_fit f op ≡ true → is_terminator op ≡ true → HoldsOperands f registers (operands op) → Leads (targets op) (way registers n op)
+op_leads f registers n (Jump to) formed types ends held = enters (to.0 ∷ []) to.0 (contains_first to.0 [])
+op_leads f registers n (Branch test there other) formed types ends held =
+    by_typed registers n (Int 1) test (there.0 ∷ other.0 ∷ []) (λ c. branched c there.0 other.0) (first_typed f registers n (Int 1) test [] true tt types held) (λ c. branch_leads c there.0 other.0)
+op_leads f registers n (Switch kind value other cases) formed types ends held =
+    int_switch f registers n kind value other cases types held
+op_leads f registers n (Ret None) formed types ends held = returned [] None
+op_leads f registers n (Ret (Some typed)) formed types ends held =
+    by_typed registers n typed.kind typed.value [] (λ x. Leaves (phase.Returned (Some x))) (first_typed f registers n typed.kind typed.value [] true formed types held) (λ x. returned [] (Some x))
+op_leads f registers n Unreachable formed types ends held = undefined []
+op_leads f registers n (Binary op nuw nsw exact disjoint kind left right) formed types ends held = absurd (false≢true ends)
+op_leads f registers n (Icmp pred kind left right) formed types ends held = absurd (false≢true ends)
+op_leads f registers n (Cast op nneg from value to) formed types ends held = absurd (false≢true ends)
+op_leads f registers n (Select test left right) formed types ends held = absurd (false≢true ends)
+op_leads f registers n (Call ret callee args) formed types ends held = absurd (false≢true ends)
+op_leads f registers n (Phi kind entries) formed types ends held = absurd (false≢true ends)
+op_leads f registers n (Freeze kind value) formed types ends held = absurd (false≢true ends)
+op_leads f registers n (Alloca kind) formed types ends held = absurd (false≢true ends)
+op_leads f registers n (Load kind from) formed types ends held = absurd (false≢true ends)
+op_leads f registers n (Store kind value to) formed types ends held = absurd (false≢true ends)
+op_leads f registers n (Gep inbounds kind base indices) formed types ends held = absurd (false≢true ends)
+
+pub way_typed : (signatures : Signatures) (f : Function) (b : ℕ) (instr : Instr) (registers : Registers) (n : ℕ) → Facts signatures f b instr → is_terminator instr.op ≡ true → HoldsOperands f registers (operands instr.op) → ((to : ℕ) × (way registers n instr.op ≡ Enters to) × Contains (targets instr.op) to) ⊎ ((how : Phase) × (way registers n instr.op ≡ Leaves how) × (how ≢ phase.Stuck) × (how ≢ phase.Running))
+way_typed signatures f b instr registers n facts ends held =
+    op_leads f registers n instr.op facts.formed.op facts.types ends held
