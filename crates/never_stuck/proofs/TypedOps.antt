@@ -1,8 +1,7 @@
 -- What an operation gives is a value of its type, or its behaviour is undefined, where the registers that it reads hold
 -- values of their types; and a terminator leads to one of its targets, or the run ends.
-use Rattle.std.proofs.Common.{◌≡◌, ◌≢◌, ℕ, zero, suc, ◌+◌, ◌%◌, ◌^◌, ◌<◌, ◌≤◌, Bool, true, false, cond, not, ◌&&◌, ◌||◌, List, [], ◌∷◌, length, map, Option, Some, None, Contains, ◌⊎◌, inl, inr, refl, ap, sym, subst, arith}
-use Rattle.std.specs.Prelude.{◌==◌, IsTrue, is_some}
-use Rattle.std.specs.List.{list_all, list_any}
+use Rattle.std.proofs.Common.{◌≡◌, ◌≢◌, ℕ, zero, suc, ◌%◌, ◌^◌, Bool, true, false, cond, not, ◌&&◌, ◌||◌, List, [], ◌∷◌, map, Option, Some, None, Contains, ◌⊎◌, inl, inr, refl, ap, sym, subst, arith}
+use Rattle.std.specs.Prelude.{◌==◌, is_some}
 use Rattle.std.proofs.lemmas.Bool.{and_parts, eqb-true, false≢true, true≢false}
 use Rattle.scev_base.specs.declared.ids.BlockId.{BlockId}
 use Rattle.scev_base.specs.Residue.{residue}
@@ -29,7 +28,7 @@ use Rattle.ir_model.specs.Kinds.{IsScalar}
 use Rattle.ir_model.specs.Shapes.{operands, targets, is_terminator, is_phi}
 use Rattle.ir_model.specs.WellMade.{IsFormed}
 use Rattle.ir_rules.specs.Types.{kind_of, same_type, fits, is_int, at_type, wanted, operands_fit, types_agree, types_fit, is_wide, converts, widths_fit}
-use Rattle.ir_rules.specs.Values.{is_equality, misuses_pointer, same_types, kinds_of, is_min_max_of, call_fits}
+use Rattle.ir_rules.specs.Values.{misuses_pointer, same_types, kinds_of, is_min_max_of, call_fits}
 use Rattle.ir_meaning.specs.declared.value.Value.{Value}
 use Rattle.ir_meaning.specs.declared.value.Value.TheVariants as value
 use Rattle.ir_meaning.specs.declared.phase.Phase.{Phase}
@@ -133,7 +132,7 @@ with_typed registers n kind out value what typed each = rw typed.1 (each typed.0
 with_two : (registers : Registers) (n : ℕ) (kind out : IrType) (left right : Operand) (what : Value → Value → Computed) → Typed registers n kind left → Typed registers n kind right → ((a b : Value) → is_of_type kind a ≡ true → is_of_type kind b ≡ true → Given out (what a b)) → Given out (with_value (operand_value registers n kind left) (λ a. with_value (operand_value registers n kind right) (λ b. what a b)))
 with_two registers n kind out left right what first second each =
     with_typed registers n kind out left (λ a. with_value (operand_value registers n kind right) (λ b. what a b)) first (λ a p.
-        with_typed registers n kind out right (λ b. what a b) second (λ b q. each a b p q))
+    with_typed registers n kind out right (λ b. what a b) second (λ b q. each a b p q))
 
 -- two operands of one type
 of_two : (f : Function) (registers : Registers) (n : ℕ) (kind out : IrType) (left right : Operand) (what : Value → Value → Computed) → IsScalar kind → operands_fit f (at_type kind left ∷ at_type kind right ∷ []) ≡ true → HoldsOperands f registers (left ∷ right ∷ []) → ((a b : Value) → is_of_type kind a ≡ true → is_of_type kind b ≡ true → Given out (what a b)) → Given out (with_value (operand_value registers n kind left) (λ a. with_value (operand_value registers n kind right) (λ b. what a b)))
@@ -146,7 +145,7 @@ of_two f registers n kind out left right what scalar fit held each =
 binary_given : (f : Function) (registers : Registers) (n : ℕ) (op : BinOp) (nuw nsw exact disjoint : Bool) (kind : IrType) (left right : Operand) → types_fit f (Binary op nuw nsw exact disjoint kind left right) ≡ true → HoldsOperands f registers (left ∷ right ∷ []) → Given kind (computed registers n (Binary op nuw nsw exact disjoint kind left right))
 binary_given f registers n op nuw nsw exact disjoint (Int w) left right types held =
     of_two f registers n (Int w) (Int w) left right (λ a b. given (binary_row op nuw nsw exact disjoint w a b)) tt types held (λ a b p q.
-        given_typed (Int w) (binary_row op nuw nsw exact disjoint w a b) (λ z is. binary_typed op nuw nsw exact disjoint w a b z p q is))
+    given_typed (Int w) (binary_row op nuw nsw exact disjoint w a b) (λ z is. binary_typed op nuw nsw exact disjoint w a b z p q is))
 binary_given f registers n op nuw nsw exact disjoint Ptr left right types held = absurd (false≢true types)
 binary_given f registers n op nuw nsw exact disjoint Void left right types held = absurd (false≢true types)
 binary_given f registers n op nuw nsw exact disjoint (Array dims w) left right types held = absurd (false≢true types)
@@ -154,12 +153,12 @@ binary_given f registers n op nuw nsw exact disjoint (Array dims w) left right t
 pointers_given : (f : Function) (registers : Registers) (n : ℕ) (equal : Bool) (left right : Operand) → operands_fit f (at_type Ptr left ∷ at_type Ptr right ∷ []) ≡ true → HoldsOperands f registers (left ∷ right ∷ []) → Given (Int 1) (with_value (operand_value registers n Ptr left) (λ a. with_value (operand_value registers n Ptr right) (λ b. Gives (compared_pointers equal n a b))))
 pointers_given f registers n equal left right types held =
     of_two f registers n Ptr (Int 1) left right (λ a b. Gives (compared_pointers equal n a b)) tt types held (λ a b p q.
-        gives_typed (Int 1) (compared_pointers equal n a b) (pointers_typed equal n a b))
+    gives_typed (Int 1) (compared_pointers equal n a b) (pointers_typed equal n a b))
 
 icmp_given : (f : Function) (registers : Registers) (n : ℕ) (pred : Pred) (kind : IrType) (left right : Operand) → IsScalar kind → operands_fit f (at_type kind left ∷ at_type kind right ∷ []) ≡ true → misuses_pointer (Icmp pred kind left right) ≡ false → HoldsOperands f registers (left ∷ right ∷ []) → Given (Int 1) (computed registers n (Icmp pred kind left right))
 icmp_given f registers n pred (Int w) left right scalar types pointers held =
     of_two f registers n (Int w) (Int 1) left right (λ a b. Gives (on_numbers (compared pred w) a b)) tt types held (λ a b p q.
-        gives_typed (Int 1) (on_numbers (compared pred w) a b) (compared_typed pred w a b p q))
+    gives_typed (Int 1) (on_numbers (compared pred w) a b) (compared_typed pred w a b p q))
 icmp_given f registers n pred.Eq Ptr left right scalar types pointers held = pointers_given f registers n true left right types held
 icmp_given f registers n pred.Ne Ptr left right scalar types pointers held = pointers_given f registers n false left right types held
 icmp_given f registers n pred.Ugt Ptr left right scalar types pointers held = absurd (true≢false pointers)
@@ -181,7 +180,7 @@ leads_to_int cast.Trunc from to wider = (and_parts (is_int to) _ wider).0
 cast_given : (f : Function) (registers : Registers) (n : ℕ) (op : CastOp) (nneg : Bool) (from to : IrType) (value : Operand) → types_fit f (Cast op nneg from value to) ≡ true → converts op from to ≡ true → is_int to ≡ true → HoldsOperands f registers (value ∷ []) → Given to (computed registers n (Cast op nneg from value to))
 cast_given f registers n op nneg (Int v) (Int w) value types wider int held =
     with_typed registers n (Int v) (Int w) value (λ x. Gives (converted op nneg v w x)) (first_typed f registers n (Int v) value [] true tt types held) (λ x p.
-        gives_typed (Int w) (converted op nneg v w x) (converted_typed op nneg v w x wider p))
+    gives_typed (Int w) (converted op nneg v w x) (converted_typed op nneg v w x wider p))
 cast_given f registers n op nneg (Int v) Ptr value types wider int held = absurd (false≢true int)
 cast_given f registers n op nneg (Int v) Void value types wider int held = absurd (false≢true int)
 cast_given f registers n op nneg (Int v) (Array dims w) value types wider int held = absurd (false≢true int)
@@ -193,7 +192,7 @@ cast_given f registers n op nneg (Array dims w) to value types wider int held = 
 arm_given : (registers : Registers) (n : ℕ) (out : IrType) (typed : TypedOperand) → typed.kind ≡ out → Typed registers n typed.kind typed.value → Given out (arm_value registers n typed)
 arm_given registers n out typed is has =
     with_typed registers n typed.kind out typed.value Gives has (λ x p.
-        gives_typed out x (subst (λ (kind : IrType). is_of_type kind x ≡ true) is p))
+    gives_typed out x (subst (λ (kind : IrType). is_of_type kind x ≡ true) is p))
 
 arms_given : (registers : Registers) (n : ℕ) (out : IrType) (left right : TypedOperand) (test : Value) → IsScalar out → Given out (arm_value registers n left) → Given out (arm_value registers n right) → Given out (chosen_arm registers n left right test)
 arms_given registers n out left right (value.Number c) scalar first second =
@@ -215,9 +214,9 @@ select_given f registers n test left right one other types held =
     let second = first_typed f registers n right.kind right.value [] true other last (rest_held f registers left.value (right.value ∷ []) behind) in
     with_typed registers n (Int 1) left.kind test (λ c. chosen_arm registers n left right c)
     (first_typed f registers n (Int 1) test (left.value ∷ right.value ∷ []) (operands_fit f (left ∷ right ∷ [])) tt agree.1 held) (λ c p.
-        arms_given registers n left.kind left right c one
-        (arm_given registers n left.kind left refl first)
-        (arm_given registers n left.kind right (sym (same_scalar left.kind right.kind one agree.0)) second))
+    arms_given registers n left.kind left right c one
+    (arm_given registers n left.kind left refl first)
+    (arm_given registers n left.kind right (sym (same_scalar left.kind right.kind one agree.0)) second))
 
 -- ---- calls of minima and maxima
 
@@ -231,7 +230,7 @@ called_given : (registers : Registers) (n w : ℕ) (named : Option MinMax) (left
 called_given registers n w None left right is first second = absurd (false≢true is)
 called_given registers n w (Some kind) left right is first second =
     with_two registers n (Int w) (Int w) left right (λ a b. Gives (on_numbers (min_max_row kind w) a b)) first second (λ a b p q.
-        gives_typed (Int w) (on_numbers (min_max_row kind w) a b) (min_max_typed kind w a b p q))
+    gives_typed (Int w) (on_numbers (min_max_row kind w) a b) (min_max_typed kind w a b p q))
 
 -- an argument of the type of the call
 arg_typed : (f : Function) (registers : Registers) (n w : ℕ) (arg : TypedOperand) (rest : List Operand) (more others : Bool) → (same_type arg.kind (Int w) && others) ≡ true → (fits f arg.kind arg.value && more) ≡ true → HoldsOperands f registers (arg.value ∷ rest) → Typed registers n (Int w) arg.value
@@ -240,11 +239,10 @@ arg_typed f registers n w arg rest more others same fit held =
     let stands = subst (λ (kind : IrType). (fits f kind arg.value && more) ≡ true) is fit in
     first_typed f registers n (Int w) arg.value rest more tt stands held
 
-values_of : List TypedOperand → List Operand
+abbrev values_of : List TypedOperand → List Operand
 values_of args = map (λ (typed : TypedOperand). typed.value) args
 
 two_args_given : (f : Function) (registers : Registers) (n w : ℕ) (callee : List ℕ) (args : List TypedOperand) → is_some (min_max_named callee) ≡ true → same_types (kinds_of args) (Int w ∷ Int w ∷ []) ≡ true → operands_fit f args ≡ true → HoldsOperands f registers (values_of args) → Given (Int w) (computed registers n (Call (Int w) callee args))
-unfolding values_of
 two_args_given f registers n w callee (left ∷ right ∷ []) is same fit held =
     let second = (and_parts (same_type left.kind (Int w)) (same_type right.kind (Int w) && true) same).1 in
     let fit' = (and_parts (fits f left.kind left.value) (fits f right.kind right.value && true) fit).1 in
@@ -278,7 +276,6 @@ call_given signatures f registers n ret callee args is calls fit held =
 -- ---- all operations that are computed
 
 op_given : (signatures : Signatures) (f : Function) (registers : Registers) (n : ℕ) (op : Op) → IsFormed op → types_fit f op ≡ true → widths_fit op ≡ true → misuses_pointer op ≡ false → call_fits signatures op ≡ true → IsBuiltOp op → is_terminator op ≡ false → is_phi op ≡ false → HoldsOperands f registers (operands op) → Given (given_type op) (computed registers n op)
-unfolding values_of
 op_given signatures f registers n (Binary op nuw nsw exact disjoint kind left right) formed types widths pointers calls built ends phi held =
     binary_given f registers n op nuw nsw exact disjoint kind left right types held
 op_given signatures f registers n (Icmp pred kind left right) formed types widths pointers calls built ends phi held =

@@ -1,6 +1,6 @@
 -- Each row gives a value of its type.
-use Rattle.std.proofs.Common.{◌≡◌, ℕ, suc, ◌+◌, ◌-◌, ◌*◌, ◌/◌, ◌%◌, ◌^◌, ◌<◌, ◌≤◌, Bool, true, false, cond, not, ◌&&◌, ◌||◌, Option, Some, None, ℤ, pos, negsuc, bit_and, bit_or, bit_xor, refl, arith}
-use Rattle.std.specs.Prelude.{◌==◌, nat_lt, nat_le, int_le, int_div, int_rem}
+use Rattle.std.proofs.Common.{◌≡◌, ℕ, ◌+◌, ◌-◌, ◌*◌, ◌/◌, ◌%◌, ◌^◌, ◌<◌, ◌≤◌, Bool, true, false, cond, ◌&&◌, Option, Some, None, ℤ, pos, negsuc, bit_and, bit_or, bit_xor, refl, arith}
+use Rattle.std.specs.Prelude.{◌==◌, nat_le, int_le, int_div, int_rem}
 use Rattle.std.specs.Int.{int_div_euclid}
 use Rattle.std.proofs.Math.Nat.{div-le_self, mod-le}
 use Rattle.std.proofs.Math.Pow.{pow_mono}
@@ -52,6 +52,15 @@ unless_poison : (w : ℕ) (bad : Bool) (n : ℕ) → IsOf w (value.Number n) →
 unless_poison w true n typed = refl
 unless_poison w false n typed = typed
 
+unless_mod : (w : ℕ) (bad : Bool) (n : ℕ) → IsOf w (cond bad value.Poison (value.Number (n % 2 ^ w)))
+unless_mod w bad n = unless_poison w bad (n % 2 ^ w) (mod_typed w n)
+
+unless_residue : (w : ℕ) (bad : Bool) (z : ℤ) → IsOf w (cond bad value.Poison (value.Number (residue w z)))
+unless_residue w bad z = unless_poison w bad (residue w z) (residue_typed w z)
+
+unless_less : (w : ℕ) (bad : Bool) (a n : ℕ) → a < 2 ^ w → n ≤ a → IsOf w (cond bad value.Poison (value.Number n))
+unless_less w bad a n less most = unless_poison w bad n (at_most w a n less most)
+
 one_of_two : (w : ℕ) (first : Bool) (a b : ℕ) → a < 2 ^ w → b < 2 ^ w → IsOf w (value.Number (cond first a b))
 one_of_two w true a b left right = number_typed w a left
 one_of_two w false a b left right = number_typed w b right
@@ -76,7 +85,8 @@ on_numbers_typed v w row value.Poison y left right each = refl
 by_number : (w : ℕ) (row : ℕ → ℕ → Value) (x z : Value) (b : ℕ) (none : Bool) → IsOf w x → IsOf w (value.Number b) → OnNumbers w w row → cond none None (Some (on_numbers row x (value.Number b))) ≡ Some z → IsOf w z
 by_number w row x z b true left right each given = absurd cc
 by_number w row x z b false left right each given =
-    rw (← same_Some (on_numbers row x (value.Number b)) z given) (on_numbers_typed w w row x (value.Number b) left right each)
+    let typed = on_numbers_typed w w row x (value.Number b) left right each in
+    rw (← same_Some (on_numbers row x (value.Number b)) z given) typed
 
 by_divisor_typed : (w : ℕ) (row : ℕ → ℕ → Value) (x y z : Value) → IsOf w x → IsOf w y → OnNumbers w w row → by_divisor row x y ≡ Some z → IsOf w z
 by_divisor_typed w row x (value.Number b) z left right each given = by_number w row x z b (b == 0) left right each given
@@ -90,7 +100,8 @@ unless_undefined w false given z each is = each is
 
 by_signed_divisor_typed : (w : ℕ) (row : ℕ → ℕ → Value) (x y z : Value) → IsOf w x → IsOf w y → OnNumbers w w row → by_signed_divisor w row x y ≡ Some z → IsOf w z
 by_signed_divisor_typed w row x y z left right each given =
-    unless_undefined w (is_minus_one w y && may_be_least w x) (by_divisor row x y) z (λ is. by_divisor_typed w row x y z left right each is) given
+    let typed = by_divisor_typed w row x y z left right each in
+    unless_undefined w (is_minus_one w y && may_be_least w x) (by_divisor row x y) z typed given
 
 -- a row that is always defined
 always : (w : ℕ) (row : ℕ → ℕ → Value) (x y z : Value) → IsOf w x → IsOf w y → OnNumbers w w row → Some (on_numbers row x y) ≡ Some z → IsOf w z
@@ -99,37 +110,42 @@ always w row x y z left right each given =
 
 pub binary_typed : (op : BinOp) (nuw nsw exact disjoint : Bool) (w : ℕ) (x y z : Value) → is_of_type (Int w) x ≡ true → is_of_type (Int w) y ≡ true → binary_row op nuw nsw exact disjoint w x y ≡ Some z → is_of_type (Int w) z ≡ true
 binary_typed binary.Add nuw nsw exact disjoint w x y z left right given =
-    always w _ x y z left right (λ a b p q. unless_poison w _ ((a + b) % 2 ^ w) (mod_typed w (a + b))) given
+    always w _ x y z left right (λ a b p q. unless_mod w _ (a + b)) given
 binary_typed binary.Sub nuw nsw exact disjoint w x y z left right given =
-    always w _ x y z left right (λ a b p q. unless_poison w _ ((a + (2 ^ w - b)) % 2 ^ w) (mod_typed w (a + (2 ^ w - b)))) given
+    always w _ x y z left right (λ a b p q. unless_mod w _ (a + (2 ^ w - b))) given
 binary_typed binary.Mul nuw nsw exact disjoint w x y z left right given =
-    always w _ x y z left right (λ a b p q. unless_poison w _ ((a * b) % 2 ^ w) (mod_typed w (a * b))) given
+    always w _ x y z left right (λ a b p q. unless_mod w _ (a * b)) given
 binary_typed binary.Shl nuw nsw exact disjoint w x y z left right given =
-    always w _ x y z left right (λ a b p q. unless_poison w _ ((a * 2 ^ b) % 2 ^ w) (mod_typed w (a * 2 ^ b))) given
+    always w _ x y z left right (λ a b p q. unless_mod w _ (a * 2 ^ b)) given
 binary_typed binary.Udiv nuw nsw exact disjoint w x y z left right given =
-    by_divisor_typed w _ x y z left right (λ a b p q. unless_poison w _ (a / b) (at_most w a (a / b) p (div-le_self a b))) given
+    by_divisor_typed w _ x y z left right (λ a b p q. unless_less w _ a (a / b) p (div-le_self a b)) given
 binary_typed binary.Sdiv nuw nsw exact disjoint w x y z left right given =
-    by_signed_divisor_typed w _ x y z left right (λ a b p q. unless_poison w _ (residue w (int_div (reading w a) (reading w b))) (residue_typed w (int_div (reading w a) (reading w b)))) given
+    by_signed_divisor_typed w _ x y z left right (λ a b p q.
+    unless_residue w _ (int_div (reading w a) (reading w b))) given
 binary_typed binary.Lshr nuw nsw exact disjoint w x y z left right given =
-    always w _ x y z left right (λ a b p q. unless_poison w _ (a / 2 ^ b) (at_most w a (a / 2 ^ b) p (div-le_self a (2 ^ b)))) given
+    always w _ x y z left right (λ a b p q. unless_less w _ a (a / 2 ^ b) p (div-le_self a (2 ^ b))) given
 binary_typed binary.Ashr nuw nsw exact disjoint w x y z left right given =
-    always w _ x y z left right (λ a b p q. unless_poison w _ (residue w (int_div_euclid (reading w a) (pos (2 ^ b)))) (residue_typed w (int_div_euclid (reading w a) (pos (2 ^ b))))) given
+    always w _ x y z left right (λ a b p q.
+    unless_residue w _ (int_div_euclid (reading w a) (pos (2 ^ b)))) given
 binary_typed binary.Urem nuw nsw exact disjoint w x y z left right given =
     by_divisor_typed w _ x y z left right (λ a b p q. at_most w a (a % b) p (mod-le a b)) given
 binary_typed binary.Srem nuw nsw exact disjoint w x y z left right given =
-    by_signed_divisor_typed w _ x y z left right (λ a b p q. residue_typed w (int_rem (reading w a) (reading w b))) given
+    by_signed_divisor_typed w _ x y z left right (λ a b p q.
+    residue_typed w (int_rem (reading w a) (reading w b))) given
 binary_typed binary.And nuw nsw exact disjoint w x y z left right given =
     always w _ x y z left right (λ a b p q. at_most w a (bit_and a b) p (and_le_l a b)) given
 binary_typed binary.Xor nuw nsw exact disjoint w x y z left right given =
     always w _ x y z left right (λ a b p q. number_typed w (bit_xor a b) (xor_lt w a b p q)) given
 binary_typed binary.Or nuw nsw exact disjoint w x y z left right given =
-    always w _ x y z left right (λ a b p q. unless_poison w _ (bit_or a b) (number_typed w (bit_or a b) (or_lt w a b p q))) given
+    always w _ x y z left right (λ a b p q.
+    unless_poison w _ (bit_or a b) (number_typed w (bit_or a b) (or_lt w a b p q))) given
 
 -- ---- comparisons, minima and maxima
 
 pub compared_typed : (pred : Pred) (w : ℕ) (x y : Value) → is_of_type (Int w) x ≡ true → is_of_type (Int w) y ≡ true → is_of_type (Int 1) (on_numbers (compared pred w) x y) ≡ true
 compared_typed pred w x y left right =
-    on_numbers_typed w 1 (compared pred w) x y left right (λ a b p q. one_of_two 1 (holds pred w a b) 1 0 (omega arith) (omega arith))
+    on_numbers_typed w 1 (compared pred w) x y left right (λ a b p q.
+    one_of_two 1 (holds pred w a b) 1 0 (omega arith) (omega arith))
 
 chosen_typed : (kind : MinMax) (w a b : ℕ) → a < 2 ^ w → b < 2 ^ w → IsOf w (min_max_row kind w a b)
 chosen_typed Umin w a b left right = one_of_two w (nat_le a b) a b left right
