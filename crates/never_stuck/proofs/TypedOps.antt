@@ -67,7 +67,8 @@ poison_typed (Array dims w) scalar = absurd scalar
 
 -- The operand has a value of the type.
 abbrev Typed : Registers → ℕ → IrType → Operand → Type 0
-Typed registers n kind value = (x : Value) × (operand_value registers n kind value ≡ Some x) × (is_of_type kind x ≡ true)
+Typed registers n kind value =
+    (x : Value) × (operand_value registers n kind value ≡ Some x) × (is_of_type kind x ≡ true)
 
 -- The operand's register, if it has one, holds a value.
 abbrev HoldsIn : Function → Registers → Operand → Type 0
@@ -106,13 +107,15 @@ rest_held f registers value rest held v inside = held v (suc inside.0, omega (ar
 
 first_typed : (f : Function) (registers : Registers) (n : ℕ) (kind : IrType) (value : Operand) (others : List Operand) (more : Bool) → IsScalar kind → (fits f kind value && more) ≡ true → HoldsOperands f registers (value ∷ others) → Typed registers n kind value
 first_typed f registers n kind value others more scalar fit held =
-    operand_typed f registers n kind value scalar (and_parts (fits f kind value) more fit).0 (first_held f registers value others held)
+    let fit' = (and_parts (fits f kind value) more fit).0 in
+    operand_typed f registers n kind value scalar fit' (first_held f registers value others held)
 
 -- ---- what is computed
 
 -- It gives a value of the type, or its behaviour is undefined.
 abbrev Given : IrType → Computed → Type 0
-Given kind outcome = ((x : Value) × (outcome ≡ Gives x) × (is_of_type kind x ≡ true)) ⊎ (outcome ≡ Fails phase.Undefined)
+Given kind outcome =
+    ((x : Value) × (outcome ≡ Gives x) × (is_of_type kind x ≡ true)) ⊎ (outcome ≡ Fails phase.Undefined)
 
 gives_typed : (kind : IrType) (x : Value) → is_of_type kind x ≡ true → Given kind (Gives x)
 gives_typed kind x typed = inl (x, refl, typed)
@@ -131,7 +134,8 @@ with_typed registers n kind out value what typed each = rw typed.1 (each typed.0
 
 with_two : (registers : Registers) (n : ℕ) (kind out : IrType) (left right : Operand) (what : Value → Value → Computed) → Typed registers n kind left → Typed registers n kind right → ((a b : Value) → is_of_type kind a ≡ true → is_of_type kind b ≡ true → Given out (what a b)) → Given out (with_value (operand_value registers n kind left) (λ a. with_value (operand_value registers n kind right) (λ b. what a b)))
 with_two registers n kind out left right what first second each =
-    with_typed registers n kind out left (λ a. with_value (operand_value registers n kind right) (λ b. what a b)) first (λ a p.
+    let after_first = λ (a : Value). with_value (operand_value registers n kind right) (λ b. what a b) in
+    with_typed registers n kind out left after_first first (λ a p.
     with_typed registers n kind out right (λ b. what a b) second (λ b q. each a b p q))
 
 -- two operands of one type
@@ -144,8 +148,9 @@ of_two f registers n kind out left right what scalar fit held each =
 
 binary_given : (f : Function) (registers : Registers) (n : ℕ) (op : BinOp) (nuw nsw exact disjoint : Bool) (kind : IrType) (left right : Operand) → types_fit f (Binary op nuw nsw exact disjoint kind left right) ≡ true → HoldsOperands f registers (left ∷ right ∷ []) → Given kind (computed registers n (Binary op nuw nsw exact disjoint kind left right))
 binary_given f registers n op nuw nsw exact disjoint (Int w) left right types held =
-    of_two f registers n (Int w) (Int w) left right (λ a b. given (binary_row op nuw nsw exact disjoint w a b)) tt types held (λ a b p q.
-    given_typed (Int w) (binary_row op nuw nsw exact disjoint w a b) (λ z is. binary_typed op nuw nsw exact disjoint w a b z p q is))
+    let row = binary_row op nuw nsw exact disjoint w in
+    of_two f registers n (Int w) (Int w) left right (λ a b. given (row a b)) tt types held (λ a b p q.
+    given_typed (Int w) (row a b) (λ z is. binary_typed op nuw nsw exact disjoint w a b z p q is))
 binary_given f registers n op nuw nsw exact disjoint Ptr left right types held = absurd (false≢true types)
 binary_given f registers n op nuw nsw exact disjoint Void left right types held = absurd (false≢true types)
 binary_given f registers n op nuw nsw exact disjoint (Array dims w) left right types held = absurd (false≢true types)
@@ -157,10 +162,13 @@ pointers_given f registers n equal left right types held =
 
 icmp_given : (f : Function) (registers : Registers) (n : ℕ) (pred : Pred) (kind : IrType) (left right : Operand) → IsScalar kind → operands_fit f (at_type kind left ∷ at_type kind right ∷ []) ≡ true → misuses_pointer (Icmp pred kind left right) ≡ false → HoldsOperands f registers (left ∷ right ∷ []) → Given (Int 1) (computed registers n (Icmp pred kind left right))
 icmp_given f registers n pred (Int w) left right scalar types pointers held =
-    of_two f registers n (Int w) (Int 1) left right (λ a b. Gives (on_numbers (compared pred w) a b)) tt types held (λ a b p q.
-    gives_typed (Int 1) (on_numbers (compared pred w) a b) (compared_typed pred w a b p q))
-icmp_given f registers n pred.Eq Ptr left right scalar types pointers held = pointers_given f registers n true left right types held
-icmp_given f registers n pred.Ne Ptr left right scalar types pointers held = pointers_given f registers n false left right types held
+    let row = on_numbers (compared pred w) in
+    of_two f registers n (Int w) (Int 1) left right (λ a b. Gives (row a b)) tt types held (λ a b p q.
+    gives_typed (Int 1) (row a b) (compared_typed pred w a b p q))
+icmp_given f registers n pred.Eq Ptr left right scalar types pointers held =
+    pointers_given f registers n true left right types held
+icmp_given f registers n pred.Ne Ptr left right scalar types pointers held =
+    pointers_given f registers n false left right types held
 icmp_given f registers n pred.Ugt Ptr left right scalar types pointers held = absurd (true≢false pointers)
 icmp_given f registers n pred.Uge Ptr left right scalar types pointers held = absurd (true≢false pointers)
 icmp_given f registers n pred.Ult Ptr left right scalar types pointers held = absurd (true≢false pointers)
@@ -179,7 +187,8 @@ leads_to_int cast.Trunc from to wider = (and_parts (is_int to) _ wider).0
 
 cast_given : (f : Function) (registers : Registers) (n : ℕ) (op : CastOp) (nneg : Bool) (from to : IrType) (value : Operand) → types_fit f (Cast op nneg from value to) ≡ true → converts op from to ≡ true → is_int to ≡ true → HoldsOperands f registers (value ∷ []) → Given to (computed registers n (Cast op nneg from value to))
 cast_given f registers n op nneg (Int v) (Int w) value types wider int held =
-    with_typed registers n (Int v) (Int w) value (λ x. Gives (converted op nneg v w x)) (first_typed f registers n (Int v) value [] true tt types held) (λ x p.
+    let typed = first_typed f registers n (Int v) value [] true tt types held in
+    with_typed registers n (Int v) (Int w) value (λ x. Gives (converted op nneg v w x)) typed (λ x p.
     gives_typed (Int w) (converted op nneg v w x) (converted_typed op nneg v w x wider p))
 cast_given f registers n op nneg (Int v) Ptr value types wider int held = absurd (false≢true int)
 cast_given f registers n op nneg (Int v) Void value types wider int held = absurd (false≢true int)
@@ -206,14 +215,18 @@ arms_given registers n out left right value.Poison scalar first second =
 
 select_given : (f : Function) (registers : Registers) (n : ℕ) (test : Operand) (left right : TypedOperand) → IsScalar left.kind → IsScalar right.kind → types_fit f (Select test left right) ≡ true → HoldsOperands f registers (test ∷ left.value ∷ right.value ∷ []) → Given left.kind (computed registers n (Select test left right))
 select_given f registers n test left right one other types held =
+    let arms = left ∷ right ∷ [] in
     let agree = and_parts (same_type left.kind right.kind) (operands_fit f (wanted (Select test left right))) types in
-    let arms = (and_parts (fits f (Int 1) test) (operands_fit f (left ∷ right ∷ [])) agree.1).1 in
-    let last = (and_parts (fits f left.kind left.value) (operands_fit f (right ∷ [])) arms).1 in
+    let fit = (and_parts (fits f (Int 1) test) (operands_fit f arms) agree.1).1 in
+    let fit' = (and_parts (fits f left.kind left.value) (operands_fit f (right ∷ [])) fit).1 in
     let behind = rest_held f registers test (left.value ∷ right.value ∷ []) held in
-    let first = first_typed f registers n left.kind left.value (right.value ∷ []) (operands_fit f (right ∷ [])) one arms behind in
-    let second = first_typed f registers n right.kind right.value [] true other last (rest_held f registers left.value (right.value ∷ []) behind) in
-    with_typed registers n (Int 1) left.kind test (λ c. chosen_arm registers n left right c)
-    (first_typed f registers n (Int 1) test (left.value ∷ right.value ∷ []) (operands_fit f (left ∷ right ∷ [])) tt agree.1 held) (λ c p.
+    let last = rest_held f registers left.value (right.value ∷ []) behind in
+    let chosen =
+    first_typed f registers n (Int 1) test (left.value ∷ right.value ∷ []) (operands_fit f arms) tt agree.1 held in
+    let first =
+    first_typed f registers n left.kind left.value (right.value ∷ []) (operands_fit f (right ∷ [])) one fit behind in
+    let second = first_typed f registers n right.kind right.value [] true other fit' last in
+    with_typed registers n (Int 1) left.kind test (λ c. chosen_arm registers n left right c) chosen (λ c p.
     arms_given registers n left.kind left right c one
     (arm_given registers n left.kind left refl first)
     (arm_given registers n left.kind right (sym (same_scalar left.kind right.kind one agree.0)) second))
@@ -229,8 +242,9 @@ same_as_int (Array dims v) w same = absurd (false≢true same)
 called_given : (registers : Registers) (n w : ℕ) (named : Option MinMax) (left right : Operand) → is_some named ≡ true → Typed registers n (Int w) left → Typed registers n (Int w) right → Given (Int w) (called registers n w named left right)
 called_given registers n w None left right is first second = absurd (false≢true is)
 called_given registers n w (Some kind) left right is first second =
-    with_two registers n (Int w) (Int w) left right (λ a b. Gives (on_numbers (min_max_row kind w) a b)) first second (λ a b p q.
-    gives_typed (Int w) (on_numbers (min_max_row kind w) a b) (min_max_typed kind w a b p q))
+    let row = on_numbers (min_max_row kind w) in
+    with_two registers n (Int w) (Int w) left right (λ a b. Gives (row a b)) first second (λ a b p q.
+    gives_typed (Int w) (row a b) (min_max_typed kind w a b p q))
 
 -- an argument of the type of the call
 arg_typed : (f : Function) (registers : Registers) (n w : ℕ) (arg : TypedOperand) (rest : List Operand) (more others : Bool) → (same_type arg.kind (Int w) && others) ≡ true → (fits f arg.kind arg.value && more) ≡ true → HoldsOperands f registers (arg.value ∷ rest) → Typed registers n (Int w) arg.value
@@ -244,11 +258,14 @@ values_of args = map (λ (typed : TypedOperand). typed.value) args
 
 two_args_given : (f : Function) (registers : Registers) (n w : ℕ) (callee : List ℕ) (args : List TypedOperand) → is_some (min_max_named callee) ≡ true → same_types (kinds_of args) (Int w ∷ Int w ∷ []) ≡ true → operands_fit f args ≡ true → HoldsOperands f registers (values_of args) → Given (Int w) (computed registers n (Call (Int w) callee args))
 two_args_given f registers n w callee (left ∷ right ∷ []) is same fit held =
-    let second = (and_parts (same_type left.kind (Int w)) (same_type right.kind (Int w) && true) same).1 in
-    let fit' = (and_parts (fits f left.kind left.value) (fits f right.kind right.value && true) fit).1 in
+    let same' = same_type right.kind (Int w) && true in
+    let fit' = fits f right.kind right.value && true in
+    let second = (and_parts (same_type left.kind (Int w)) same' same).1 in
+    let last = (and_parts (fits f left.kind left.value) fit' fit).1 in
+    let behind = rest_held f registers left.value (right.value ∷ []) held in
     called_given registers n w (min_max_named callee) left.value right.value is
-    (arg_typed f registers n w left (right.value ∷ []) (fits f right.kind right.value && true) (same_type right.kind (Int w) && true) same fit held)
-    (arg_typed f registers n w right [] true true second fit' (rest_held f registers left.value (right.value ∷ []) held))
+    (arg_typed f registers n w left (right.value ∷ []) fit' same' same fit held)
+    (arg_typed f registers n w right [] true true second last behind)
 two_args_given f registers n w callee [] is same fit held = absurd (false≢true same)
 two_args_given f registers n w callee (left ∷ []) is same fit held =
     absurd (false≢true (and_parts (same_type left.kind (Int w)) false same).1)
@@ -261,7 +278,8 @@ needed true fit given both = both
 needed false fit given both = absurd (false≢true given)
 
 call_of_kind : (f : Function) (registers : Registers) (n : ℕ) (ret : IrType) (callee : List ℕ) (args : List TypedOperand) → is_some (min_max_named callee) ≡ true → is_min_max_of ret callee ≡ true → same_types (kinds_of args) (ret ∷ ret ∷ []) ≡ true → operands_fit f args ≡ true → HoldsOperands f registers (values_of args) → Given ret (computed registers n (Call ret callee args))
-call_of_kind f registers n (Int w) callee args is named same fit held = two_args_given f registers n w callee args is same fit held
+call_of_kind f registers n (Int w) callee args is named same fit held =
+    two_args_given f registers n w callee args is same fit held
 call_of_kind f registers n Ptr callee args is named same fit held = absurd (false≢true named)
 call_of_kind f registers n Void callee args is named same fit held = absurd (false≢true named)
 call_of_kind f registers n (Array dims w) callee args is named same fit held = absurd (false≢true named)
@@ -276,32 +294,33 @@ call_given signatures f registers n ret callee args is calls fit held =
 -- ---- all operations that are computed
 
 op_given : (signatures : Signatures) (f : Function) (registers : Registers) (n : ℕ) (op : Op) → IsFormed op → types_fit f op ≡ true → widths_fit op ≡ true → misuses_pointer op ≡ false → call_fits signatures op ≡ true → IsBuiltOp op → is_terminator op ≡ false → is_phi op ≡ false → HoldsOperands f registers (operands op) → Given (given_type op) (computed registers n op)
-op_given signatures f registers n (Binary op nuw nsw exact disjoint kind left right) formed types widths pointers calls built ends phi held =
+op_given signatures f registers n (Binary op nuw nsw exact disjoint kind left right) _ types _ _ _ _ _ _ held =
     binary_given f registers n op nuw nsw exact disjoint kind left right types held
-op_given signatures f registers n (Icmp pred kind left right) formed types widths pointers calls built ends phi held =
+op_given signatures f registers n (Icmp pred kind left right) formed types _ pointers _ _ _ _ held =
     icmp_given f registers n pred kind left right formed types pointers held
-op_given signatures f registers n (Cast op nneg from value to) formed types widths pointers calls built ends phi held =
+op_given signatures f registers n (Cast op nneg from value to) _ types widths _ _ _ _ _ held =
     let wider = (and_parts (is_wide from && is_wide to) (converts op from to) widths).1 in
     cast_given f registers n op nneg from to value types wider (leads_to_int op from to wider) held
-op_given signatures f registers n (Select test left right) formed types widths pointers calls built ends phi held =
+op_given signatures f registers n (Select test left right) formed types _ _ _ _ _ _ held =
     select_given f registers n test left right formed.0 formed.1 types held
-op_given signatures f registers n (Call ret callee args) formed types widths pointers calls built ends phi held =
+op_given signatures f registers n (Call ret callee args) _ types _ _ calls built _ _ held =
     call_given signatures f registers n ret callee args built calls types held
-op_given signatures f registers n (Phi kind entries) formed types widths pointers calls built ends phi held = absurd (true≢false phi)
-op_given signatures f registers n (Freeze kind value) formed types widths pointers calls built ends phi held = absurd built
-op_given signatures f registers n (Alloca kind) formed types widths pointers calls built ends phi held = absurd built
-op_given signatures f registers n (Load kind from) formed types widths pointers calls built ends phi held = absurd built
-op_given signatures f registers n (Store kind value to) formed types widths pointers calls built ends phi held = absurd built
-op_given signatures f registers n (Gep inbounds kind base indices) formed types widths pointers calls built ends phi held = absurd built
-op_given signatures f registers n (Jump to) formed types widths pointers calls built ends phi held = absurd (true≢false ends)
-op_given signatures f registers n (Branch test there other) formed types widths pointers calls built ends phi held = absurd (true≢false ends)
-op_given signatures f registers n (Switch kind value other cases) formed types widths pointers calls built ends phi held = absurd (true≢false ends)
-op_given signatures f registers n (Ret value) formed types widths pointers calls built ends phi held = absurd (true≢false ends)
-op_given signatures f registers n Unreachable formed types widths pointers calls built ends phi held = absurd (true≢false ends)
+op_given signatures f registers n (Phi kind entries) _ _ _ _ _ _ _ phi _ = absurd (true≢false phi)
+op_given signatures f registers n (Freeze kind value) _ _ _ _ _ built _ _ _ = absurd built
+op_given signatures f registers n (Alloca kind) _ _ _ _ _ built _ _ _ = absurd built
+op_given signatures f registers n (Load kind from) _ _ _ _ _ built _ _ _ = absurd built
+op_given signatures f registers n (Store kind value to) _ _ _ _ _ built _ _ _ = absurd built
+op_given signatures f registers n (Gep inbounds kind base indices) _ _ _ _ _ built _ _ _ = absurd built
+op_given signatures f registers n (Jump to) _ _ _ _ _ _ ends _ _ = absurd (true≢false ends)
+op_given signatures f registers n (Branch test there other) _ _ _ _ _ _ ends _ _ = absurd (true≢false ends)
+op_given signatures f registers n (Switch kind value other cases) _ _ _ _ _ _ ends _ _ = absurd (true≢false ends)
+op_given signatures f registers n (Ret value) _ _ _ _ _ _ ends _ _ = absurd (true≢false ends)
+op_given signatures f registers n Unreachable _ _ _ _ _ _ ends _ _ = absurd (true≢false ends)
 
 pub computed_typed : (signatures : Signatures) (f : Function) (b : ℕ) (instr : Instr) (registers : Registers) (n : ℕ) → Facts signatures f b instr → IsBuiltOp instr.op → is_terminator instr.op ≡ false → is_phi instr.op ≡ false → HoldsOperands f registers (operands instr.op) → ((x : Value) × (computed registers n instr.op ≡ Gives x) × (is_of_type (given_type instr.op) x ≡ true)) ⊎ (computed registers n instr.op ≡ Fails phase.Undefined)
 computed_typed signatures f b instr registers n facts built ends phi held =
-    op_given signatures f registers n instr.op facts.formed.op facts.types facts.widths facts.pointers facts.calls built ends phi held
+    op_given signatures f registers n instr.op
+    facts.formed.op facts.types facts.widths facts.pointers facts.calls built ends phi held
 
 -- ---- terminators
 
@@ -356,7 +375,9 @@ this_or_later false other to x rest later = one_more other to x rest later
 case_leads : (w : ℕ) (cases : List Case) (other x : ℕ) → Contains (blocks_of other cases) (case_target w cases other x)
 case_leads w [] other x = contains_first other []
 case_leads w (one ∷ cases) other x =
-    this_or_later (residue w one.number == x) other one.to.0 (case_target w cases other x) (map (λ (one : Case). one.to.0) cases) (case_leads w cases other x)
+    let later = map (λ (one : Case). one.to.0) cases in
+    let found = case_target w cases other x in
+    this_or_later (residue w one.number == x) other one.to.0 found later (case_leads w cases other x)
 
 switch_leads : (w : ℕ) (cases : List Case) (other : ℕ) (x : Value) → Leads (blocks_of other cases) (switched w cases other x)
 switch_leads w cases other (value.Number x) =
@@ -367,8 +388,11 @@ switch_leads w cases other value.Poison = undefined (blocks_of other cases)
 
 int_switch : (f : Function) (registers : Registers) (n : ℕ) (kind : IrType) (value : Operand) (other : BlockId) (cases : List Case) → types_fit f (Switch kind value other cases) ≡ true → HoldsOperands f registers (value ∷ []) → Leads (blocks_of other.0 cases) (way registers n (Switch kind value other cases))
 int_switch f registers n (Int w) value other cases types held =
-    let fit = (and_parts (types_agree (Switch (Int w) value other cases)) (operands_fit f (wanted (Switch (Int w) value other cases))) types).1 in
-    by_typed registers n (Int w) value (blocks_of other.0 cases) (λ x. switched w cases other.0 x) (first_typed f registers n (Int w) value [] _ tt fit held) (λ x. switch_leads w cases other.0 x)
+    let op = Switch (Int w) value other cases in
+    let fit = (and_parts (types_agree op) (operands_fit f (wanted op)) types).1 in
+    let typed = first_typed f registers n (Int w) value [] _ tt fit held in
+    by_typed registers n (Int w) value (blocks_of other.0 cases) (λ x. switched w cases other.0 x) typed
+    (λ x. switch_leads w cases other.0 x)
 int_switch f registers n Ptr value other cases types held = absurd (false≢true types)
 int_switch f registers n Void value other cases types held = absurd (false≢true types)
 int_switch f registers n (Array dims w) value other cases types held = absurd (false≢true types)
@@ -376,24 +400,28 @@ int_switch f registers n (Array dims w) value other cases types held = absurd (f
 op_leads : (f : Function) (registers : Registers) (n : ℕ) (op : Op) → IsFormed op → types_fit f op ≡ true → is_terminator op ≡ true → HoldsOperands f registers (operands op) → Leads (targets op) (way registers n op)
 op_leads f registers n (Jump to) formed types ends held = enters (to.0 ∷ []) to.0 (contains_first to.0 [])
 op_leads f registers n (Branch test there other) formed types ends held =
-    by_typed registers n (Int 1) test (there.0 ∷ other.0 ∷ []) (λ c. branched c there.0 other.0) (first_typed f registers n (Int 1) test [] true tt types held) (λ c. branch_leads c there.0 other.0)
+    let typed = first_typed f registers n (Int 1) test [] true tt types held in
+    by_typed registers n (Int 1) test (there.0 ∷ other.0 ∷ []) (λ c. branched c there.0 other.0) typed
+    (λ c. branch_leads c there.0 other.0)
 op_leads f registers n (Switch kind value other cases) formed types ends held =
     int_switch f registers n kind value other cases types held
 op_leads f registers n (Ret None) formed types ends held = returned [] None
 op_leads f registers n (Ret (Some typed)) formed types ends held =
-    by_typed registers n typed.kind typed.value [] (λ x. Leaves (phase.Returned (Some x))) (first_typed f registers n typed.kind typed.value [] true formed types held) (λ x. returned [] (Some x))
+    let held' = first_typed f registers n typed.kind typed.value [] true formed types held in
+    by_typed registers n typed.kind typed.value [] (λ x. Leaves (phase.Returned (Some x))) held'
+    (λ x. returned [] (Some x))
 op_leads f registers n Unreachable formed types ends held = undefined []
-op_leads f registers n (Binary op nuw nsw exact disjoint kind left right) formed types ends held = absurd (false≢true ends)
-op_leads f registers n (Icmp pred kind left right) formed types ends held = absurd (false≢true ends)
-op_leads f registers n (Cast op nneg from value to) formed types ends held = absurd (false≢true ends)
-op_leads f registers n (Select test left right) formed types ends held = absurd (false≢true ends)
-op_leads f registers n (Call ret callee args) formed types ends held = absurd (false≢true ends)
-op_leads f registers n (Phi kind entries) formed types ends held = absurd (false≢true ends)
-op_leads f registers n (Freeze kind value) formed types ends held = absurd (false≢true ends)
-op_leads f registers n (Alloca kind) formed types ends held = absurd (false≢true ends)
-op_leads f registers n (Load kind from) formed types ends held = absurd (false≢true ends)
-op_leads f registers n (Store kind value to) formed types ends held = absurd (false≢true ends)
-op_leads f registers n (Gep inbounds kind base indices) formed types ends held = absurd (false≢true ends)
+op_leads f registers n (Binary op nuw nsw exact disjoint kind left right) _ _ ends _ = absurd (false≢true ends)
+op_leads f registers n (Icmp pred kind left right) _ _ ends _ = absurd (false≢true ends)
+op_leads f registers n (Cast op nneg from value to) _ _ ends _ = absurd (false≢true ends)
+op_leads f registers n (Select test left right) _ _ ends _ = absurd (false≢true ends)
+op_leads f registers n (Call ret callee args) _ _ ends _ = absurd (false≢true ends)
+op_leads f registers n (Phi kind entries) _ _ ends _ = absurd (false≢true ends)
+op_leads f registers n (Freeze kind value) _ _ ends _ = absurd (false≢true ends)
+op_leads f registers n (Alloca kind) _ _ ends _ = absurd (false≢true ends)
+op_leads f registers n (Load kind from) _ _ ends _ = absurd (false≢true ends)
+op_leads f registers n (Store kind value to) _ _ ends _ = absurd (false≢true ends)
+op_leads f registers n (Gep inbounds kind base indices) _ _ ends _ = absurd (false≢true ends)
 
 pub way_typed : (signatures : Signatures) (f : Function) (b : ℕ) (instr : Instr) (registers : Registers) (n : ℕ) → Facts signatures f b instr → is_terminator instr.op ≡ true → HoldsOperands f registers (operands instr.op) → ((to : ℕ) × (way registers n instr.op ≡ Enters to) × Contains (targets instr.op) to) ⊎ ((how : Phase) × (way registers n instr.op ≡ Leaves how) × (how ≢ phase.Stuck) × (how ≢ phase.Running))
 way_typed signatures f b instr registers n facts ends held =
