@@ -1,14 +1,12 @@
 -- What is kept at each step: the walk so far, the place in its block, and the registers that are set.
-use Rattle.std.proofs.Common.{◌≡◌, ℕ, suc, ◌<◌, ◌≤◌, Bool, true, false, List, [], ◌∷◌, length, Option, Some, None, Contains, slice_get, ◌⊎◌}
-use Rattle.ir_model.specs.declared.op.Op.{Op}
-use Rattle.ir_model.specs.declared.op.Op.TheVariants.{Phi}
+use Rattle.std.proofs.Common.{◌≡◌, ℕ, ◌<◌, ◌≤◌, true, false, List, ◌∷◌, length, Some, Contains, slice_get}
 use Rattle.ir_model.specs.declared.op.Operand.{Operand}
 use Rattle.ir_model.specs.declared.op.Operand.TheVariants as operand
 use Rattle.ir_model.specs.declared.function.Instr.{Instr}
 use Rattle.ir_model.specs.declared.function.Block.{Block}
 use Rattle.ir_model.specs.declared.function.Function.{Function}
 use Rattle.ir_model.specs.declared.signature.Signatures.{Signatures}
-use Rattle.ir_model.specs.Shapes.{block_of, leading_phis, operands, targets, is_terminator, is_phi}
+use Rattle.ir_model.specs.Shapes.{block_of, leading_phis, operands, targets}
 use Rattle.ir_model.specs.Walks.{Trail}
 use Rattle.ir_model.specs.WellMade.{IsFormedInstr}
 use Rattle.ir_rules.specs.Types.{kind_of, types_fit, widths_fit}
@@ -30,9 +28,9 @@ abbrev pub HoldsOperands : Function → Registers → List Operand → Type 0
 HoldsOperands f registers operands = (v : ℕ) → Contains operands (operand.Reg (record { 0 = v })) → Holds f registers v
 
 -- An instruction stands in a block of the function.
-pub record StandsIn (f : Function) (b i : ℕ) (block : Block) (instr : Instr) : Type 0 where
-  pub block : block_of f b ≡ Some block
-  pub instr : slice_get block.instrs i ≡ Some instr
+pub record StandsIn (f : Function) (b i : ℕ) (there : Block) (one : Instr) : Type 0 where
+  pub block : block_of f b ≡ Some there
+  pub instr : slice_get there.instrs i ≡ Some one
 
 -- What rules and forms say of an instruction of a block.
 pub record Facts (signatures : Signatures) (f : Function) (b : ℕ) (instr : Instr) : Type 0 where
