@@ -9,3 +9,5 @@ pub mod Shown
 pub mod Sound
 pub mod Standing
 pub mod Started
+pub mod TypedOps
+pub mod TypedRows
