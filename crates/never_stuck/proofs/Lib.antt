@@ -1,4 +1,9 @@
+pub mod Accepted
+pub mod DefinedOnce
+pub mod DefinedTypes
+pub mod Elements
 pub mod Entered
+pub mod EnteredPhis
 pub mod Filled
 pub mod Kept
 pub mod Members
