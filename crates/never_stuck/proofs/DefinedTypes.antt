@@ -12,7 +12,6 @@ use Rattle.ir_model.specs.declared.function.Block.{Block}
 use Rattle.ir_model.specs.declared.function.Function.{Function}
 use Rattle.ir_model.specs.declared.function.ValueInfo.{ValueInfo}
 use Rattle.ir_model.specs.declared.signature.Signatures.{Signatures}
-use Rattle.ir_model.specs.declared.rule.Rule.TheVariants as rule
 use Rattle.ir_model.specs.declared.rule.Place.TheVariants.{Value, BlockAt}
 use Rattle.ir_model.specs.Defined.{given_type, is_value, or_else, param_type, instr_type, block_type, type_of}
 use Rattle.ir_model.specs.Sites.{DefinesValue, DefinesBlock, result_sites, op_sites, instr_sites, block_sites, function_sites}

@@ -1,6 +1,6 @@
 -- What a walk of an accepted function has passed where a value is used, and which uses its instructions have.
-use Rattle.std.proofs.Common.{◌≡◌, ℕ, zero, suc, ◌+◌, ◌<◌, ◌==◌, ◌⊎◌, Bool, true, false, List, [], ◌∷◌, map, flat_map, Option, Some, None, Contains, slice_get, refl, sym, ◌∙◌, inl, inr, subst, arith}
-use Rattle.std.proofs.lemmas.Bool.{cases_eq, cases_lt, both_ways, eqb-true, false≢true}
+use Rattle.std.proofs.Common.{◌≡◌, ℕ, zero, suc, ◌+◌, ◌<◌, ◌⊎◌, Bool, true, false, List, [], ◌∷◌, map, flat_map, Option, Some, None, Contains, slice_get, refl, sym, ◌∙◌, inl, inr, subst, arith}
+use Rattle.std.proofs.lemmas.Bool.{cases_eq, cases_lt, both_ways, false≢true}
 use Rattle.std.proofs.lemmas.Option.{none-some, same_Some, some_pair_parts}
 use Rattle.std.proofs.lemmas.List.Elements.{Contains-append_left, Contains-append_right}
 use Rattle.scev_base.specs.declared.ids.BlockId.{BlockId}
@@ -17,10 +17,10 @@ use Rattle.ir_model.specs.Places.{is_param, place_of}
 use Rattle.ir_model.specs.Shapes.{operands, register_of, is_phi}
 use Rattle.ir_model.specs.Walks.{Trail}
 use Rattle.ir_rules.specs.Uses.{Use, size_of, op_uses, uses_from, uses, HasPassed, UsesAreDefined}
-use Rattle.ir_meaning.proofs.ListPlaces.{contained_at, found_there}
+use Rattle.ir_meaning.proofs.ListPlaces.{contained_at}
 use Rattle.never_stuck.proofs.Sound.{StandsIn}
 use Rattle.never_stuck.proofs.Accepted.{block_in}
-use Rattle.never_stuck.proofs.Elements.{contains_at, map_has, flat_map_has}
+use Rattle.never_stuck.proofs.Elements.{map_has, flat_map_has}
 use Rattle.never_stuck.proofs.Members.{contains_or_not}
 
 -- ---- whether a walk has passed a value

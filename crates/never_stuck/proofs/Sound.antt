@@ -1,14 +1,12 @@
 -- What is kept at each step: the walk so far, the place in its block, and the registers that are set.
-use Rattle.std.proofs.Common.{◌≡◌, ℕ, suc, ◌<◌, ◌≤◌, Bool, true, false, List, [], ◌∷◌, length, Option, Some, None, Contains, slice_get, ◌⊎◌}
-use Rattle.ir_model.specs.declared.op.Op.{Op}
-use Rattle.ir_model.specs.declared.op.Op.TheVariants.{Phi}
+use Rattle.std.proofs.Common.{◌≡◌, ℕ, ◌<◌, ◌≤◌, true, false, List, ◌∷◌, length, Some, Contains, slice_get}
 use Rattle.ir_model.specs.declared.op.Operand.{Operand}
 use Rattle.ir_model.specs.declared.op.Operand.TheVariants as operand
 use Rattle.ir_model.specs.declared.function.Instr.{Instr}
 use Rattle.ir_model.specs.declared.function.Block.{Block}
 use Rattle.ir_model.specs.declared.function.Function.{Function}
 use Rattle.ir_model.specs.declared.signature.Signatures.{Signatures}
-use Rattle.ir_model.specs.Shapes.{block_of, leading_phis, operands, targets, is_terminator, is_phi}
+use Rattle.ir_model.specs.Shapes.{block_of, leading_phis, operands, targets}
 use Rattle.ir_model.specs.Walks.{Trail}
 use Rattle.ir_model.specs.WellMade.{IsFormedInstr}
 use Rattle.ir_rules.specs.Types.{kind_of, types_fit, widths_fit}
