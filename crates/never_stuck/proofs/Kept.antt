@@ -19,7 +19,7 @@ use Rattle.ir_meaning.specs.Step.{Computed, Gives, Fails, Way, Enters, Leaves, c
 use Rattle.never_stuck.specs.NeverStuck.{IsBuilt}
 use Rattle.never_stuck.proofs.Sound.{StandsIn, Sound}
 use Rattle.never_stuck.proofs.Shown.{Accepts, Computes}
-use Rattle.never_stuck.proofs.Members.{at_contains, contains_flat}
+use Rattle.never_stuck.proofs.Elements.{contains_at, flat_map_has}
 use Rattle.never_stuck.proofs.Registers.{SuitsResult, held_set}
 use Rattle.never_stuck.proofs.Standing.{built_at, stands_at, at_instr, no_phi, operands_held, passed_next}
 use Rattle.never_stuck.proofs.Entered.{entered_sound}
@@ -92,8 +92,8 @@ module _ (signatures : Signatures) (f : Function) (accepts : Accepts signatures 
       edge_to to leads = (
         sound.block,
         sound.at,
-        contains_flat (λ (one : Instr). targets one.op) sound.block.instrs instr to
-            (at_contains sound.block.instrs s.place instr stands.instr) leads,
+        flat_map_has (λ (one : Instr). targets one.op) sound.block.instrs instr to
+            (contains_at sound.block.instrs s.place instr stands.instr) leads,
       )
 
       entered_well : (to : ℕ) → Contains (targets instr.op) to

@@ -1,6 +1,6 @@
 -- What a walk of an accepted function has passed where a value is used, and which uses its instructions have.
-use Rattle.std.proofs.Common.{◌≡◌, ℕ, zero, suc, ◌+◌, ◌<◌, ◌==◌, ◌⊎◌, Bool, true, false, List, [], ◌∷◌, map, flat_map, Option, Some, None, Contains, slice_get, refl, sym, ◌∙◌, inl, inr, subst, arith}
-use Rattle.std.proofs.lemmas.Bool.{cases_eq, cases_lt, both_ways, eqb-true, false≢true}
+use Rattle.std.proofs.Common.{◌≡◌, ℕ, zero, suc, ◌+◌, ◌<◌, ◌⊎◌, Bool, true, false, List, [], ◌∷◌, map, flat_map, Option, Some, None, Contains, slice_get, refl, sym, ◌∙◌, inl, inr, subst, arith}
+use Rattle.std.proofs.lemmas.Bool.{cases_eq, cases_lt, both_ways, false≢true}
 use Rattle.std.proofs.lemmas.Option.{none-some, same_Some, some_pair_parts}
 use Rattle.std.proofs.lemmas.List.Elements.{Contains-append_left, Contains-append_right}
 use Rattle.scev_base.specs.declared.ids.BlockId.{BlockId}
@@ -17,9 +17,11 @@ use Rattle.ir_model.specs.Places.{is_param, place_of}
 use Rattle.ir_model.specs.Shapes.{operands, register_of, is_phi}
 use Rattle.ir_model.specs.Walks.{Trail}
 use Rattle.ir_rules.specs.Uses.{Use, size_of, op_uses, uses_from, uses, HasPassed, UsesAreDefined}
-use Rattle.ir_meaning.proofs.ListPlaces.{contained_at, found_there}
+use Rattle.ir_meaning.proofs.ListPlaces.{contained_at}
 use Rattle.never_stuck.proofs.Sound.{StandsIn}
-use Rattle.never_stuck.proofs.Members.{contains_or_not, at_contains, contains_mapped, contains_flat}
+use Rattle.never_stuck.proofs.Accepted.{block_in}
+use Rattle.never_stuck.proofs.Elements.{map_has, flat_map_has}
+use Rattle.never_stuck.proofs.Members.{contains_or_not}
 
 -- ---- whether a walk has passed a value
 
@@ -120,11 +122,9 @@ entry_uses f b entry =
 instr_uses : (f : Function) (b i : ℕ) (block : Block) (instr : Instr) (use_ : Use) → StandsIn f b i block instr
     → Contains (op_uses f b i instr.op) use_ → Contains (uses f) use_
 instr_uses f b i block instr use_ stands there =
-    let found = found_there (λ (one : Block). one.id.0 == b) f.blocks block stands.block in
-    let own : block.id.0 ≡ b = eqb-true block.id.0 b found.2 in
-    contains_flat (λ (one : Block). uses_from f one.id.0 0 one.instrs) f.blocks block use_
-    (at_contains f.blocks found.0 block found.1)
-    (subst (λ (n : ℕ). Contains (uses_from f n 0 block.instrs) use_) (sym own)
+    let found = block_in f b block stands.block in
+    flat_map_has (λ (one : Block). uses_from f one.id.0 0 one.instrs) f.blocks block use_ found.0
+    (subst (λ (n : ℕ). Contains (uses_from f n 0 block.instrs) use_) (sym found.1)
     (uses_at f b 0 block.instrs i instr use_ stands.instr
     (subst (λ (n : ℕ). Contains (op_uses f b n instr.op) use_) (zero_plus i) there)))
 
@@ -134,10 +134,10 @@ pub operand_use : (f : Function) (b i : ℕ) (block : Block) (instr : Instr) (v 
 operand_use f b i block instr v stands no_phi there =
     let use_of : ℕ → Use = λ v. record { value = v; user = b; block = b; index = i } in
     let read : Contains (flat_map register_of (operands instr.op)) v =
-    contains_flat register_of (operands instr.op) (operand.Reg (record { 0 = v })) v there (0, omega arith, refl) in
+    flat_map_has register_of (operands instr.op) (operand.Reg (record { 0 = v })) v there (0, omega arith, refl) in
     instr_uses f b i block instr (use_of v) stands
     (subst (λ (found : List Use). Contains found (use_of v)) (sym (plain_uses f b i instr.op no_phi))
-    (contains_mapped use_of (flat_map register_of (operands instr.op)) v read))
+    (map_has use_of (flat_map register_of (operands instr.op)) v read))
 
 pub phi_use : (f : Function) (b i : ℕ) (block : Block) (instr : Instr) (kind : IrType) (entries : List PhiEntry)
     (entry : PhiEntry) (v : ℕ) → StandsIn f b i block instr → instr.op ≡ Phi kind entries → Contains entries entry
@@ -147,8 +147,8 @@ phi_use f b i block instr kind entries entry v stands is there reads =
     let use_of : ℕ → Use =
     λ v. record { value = v; user = b; block = entry.from.0; index = size_of f entry.from.0 } in
     let read : Contains (entry_uses f b entry) (use_of v) =
-    contains_mapped use_of (register_of entry.value) v
+    map_has use_of (register_of entry.value) v
     (subst (λ (o : Operand). Contains (register_of o) v) (sym reads) (0, omega arith, refl)) in
     instr_uses f b i block instr (use_of v) stands
     (subst (λ (op : Op). Contains (op_uses f b i op) (use_of v)) (sym is)
-    (contains_flat (entry_uses f b) entries entry (use_of v) there read))
+    (flat_map_has (entry_uses f b) entries entry (use_of v) there read))

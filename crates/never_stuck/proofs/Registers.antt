@@ -18,7 +18,7 @@ use Rattle.ir_meaning.specs.Values.{is_of_type, Fits}
 use Rattle.ir_meaning.specs.Step.{phi_value, with_phis}
 use Rattle.ir_meaning.specs.Run.{GivesTo, ArgsFit, with_args}
 use Rattle.never_stuck.proofs.Sound.{Holds}
-use Rattle.never_stuck.proofs.Members.{contains_later}
+use Rattle.never_stuck.proofs.Elements.{contains_more}
 
 -- what may be handed in for a parameter is of its type
 fit_typed : (memory : Memory) (kind : IrType) (x : Value) → Fits memory kind x → is_of_type kind x ≡ true
@@ -73,7 +73,7 @@ module _ (f : Function) where
         ∙ typed p (0, omega arith, refl) in
         rw own (fit_typed memory p.kind x fit.0) in
         held_args params args (set registers (Some p.value) x) fit.1
-        (λ other there. typed other (contains_later p params other there)) v
+        (λ other there. typed other (contains_more p params other there)) v
         (elim known [
           | inl held ↦ inl (held_set registers (Some p.value) x suits v (inl held))
           | inr param ↦

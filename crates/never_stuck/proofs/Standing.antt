@@ -1,5 +1,5 @@
 -- What a sound state stands at: an instruction, whose operands hold values.
-use Rattle.std.proofs.Common.{◌≡◌, ℕ, suc, ◌<◌, ◌==◌, ◌⊎◌, true, false, List, length, Option, Some, option_and_then, option_map, unwrap_or, slice_get, sym, ◌∙◌, inl, inr, subst, ap, arith}
+use Rattle.std.proofs.Common.{◌≡◌, ℕ, suc, ◌<◌, ◌⊎◌, true, false, List, length, Option, Some, option_and_then, option_map, unwrap_or, slice_get, sym, ◌∙◌, inl, inr, subst, ap, arith}
 use Rattle.std.proofs.lemmas.Bool.{cases_lt, false≢true}
 use Rattle.std.proofs.lemmas.Option.{same_Some, slice_get_cases}
 use Rattle.std.proofs.lemmas.List.Elements.{All-contains}
@@ -18,11 +18,11 @@ use Rattle.ir_rules.specs.Uses.{size_of, HasPassed, UsesAreDefined}
 use Rattle.ir_meaning.specs.State.{State}
 use Rattle.ir_meaning.specs.Step.{instr_at}
 use Rattle.ir_meaning.specs.Run.{GivesTo}
-use Rattle.ir_meaning.proofs.ListPlaces.{found_there}
 use Rattle.never_stuck.specs.NeverStuck.{IsBuiltOp, IsBuilt}
 use Rattle.never_stuck.proofs.Sound.{Holds, HoldsOperands, StandsIn, Sound}
 use Rattle.never_stuck.proofs.Shown.{Accepts}
-use Rattle.never_stuck.proofs.Members.{at_contains, contains_flat}
+use Rattle.never_stuck.proofs.Accepted.{block_in}
+use Rattle.never_stuck.proofs.Elements.{contains_at, flat_map_has}
 use Rattle.never_stuck.proofs.Passed.{use_passed, operand_use}
 
 pub some_within : {X : Type 0} (xs : List X) (k : ℕ) → k < length xs → (x : X) × (slice_get xs k ≡ Some x)
@@ -42,10 +42,9 @@ module _ (signatures : Signatures) (f : Function) (accepts : Accepts signatures 
   pub built_at : IsBuilt f → (b i : ℕ) (block : Block) (instr : Instr) → StandsIn f b i block instr
       → IsBuiltOp instr.op
   built_at built b i block instr stands =
-      let found = found_there (λ (one : Block). one.id.0 == b) f.blocks block stands.block in
       All-contains (λ (one : Instr). IsBuiltOp one.op) (instructions f.blocks) instr built
-      (contains_flat (λ (one : Block). one.instrs) f.blocks block instr (at_contains f.blocks found.0 block found.1)
-      (at_contains block.instrs i instr stands.instr))
+      (flat_map_has (λ (one : Block). one.instrs) f.blocks block instr (block_in f b block stands.block).0
+      (contains_at block.instrs i instr stands.instr))
 
   module _ (s : State) (sound : Sound f s) where
     pub stands_at : (instr : Instr) × StandsIn f s.block s.place sound.block instr
