@@ -5,7 +5,7 @@ use Rattle.ir_left_out.proofs.callees.is_intrinsic.Goals as goal
 
 pub returns-in-Ok : goal.returns-in-Ok
 returns-in-Ok c =
-    let value = rw (c.as_slice.ensures, c.as_slice-in-Ok.ensures) at c.starts_with.ensures.value in
+    let value = rw c.as_slice.ensures at c.is_intrinsic.ensures in
     value ∙ name_read (left_from c.args.tokens.now c.args.at) _ c.in-Ok.name c.in-Ok.ensures.value
 
 pub returns-in-Err-CannotGoOn : goal.returns-in-Err-CannotGoOn

@@ -1,4 +1,4 @@
-use Rattle.std.proofs.Common.{◌≡◌, ℕ, zero, suc, ◌-◌, ◌≤◌, arith, ap}
+use Rattle.std.proofs.Common.{◌≡◌, ℕ, suc, ◌-◌, ◌≤◌, arith, ap}
 use Rattle.std.specs.Prelude.{slice_get}
 use Rattle.ir_text.specs.PassedOn.{left_out_words}
 use Rattle.ir_grammar.specs.Spelled.{left_out}
