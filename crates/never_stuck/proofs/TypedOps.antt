@@ -74,15 +74,20 @@ Typed registers n kind value =
 abbrev HoldsIn : Function → Registers → Operand → Type 0
 HoldsIn f registers value = (v : ℕ) → value ≡ operand.Reg (record { 0 = v }) → Holds f registers v
 
-kept_by_type : (kind : IrType) (held : Option Value) (x : Value) → held ≡ Some x → is_of_type kind x ≡ true → of_type kind held ≡ Some x
+kept_by_type : (kind : IrType) (held : Option Value) (x : Value) → held ≡ Some x → is_of_type kind x ≡ true
+    → of_type kind held ≡ Some x
 kept_by_type kind held x is typed = rw (is, typed) refl
 
-register_typed : (f : Function) (registers : Registers) (n : ℕ) (kind : IrType) (v : ℕ) → IsScalar kind → same_type kind (kind_of f v) ≡ true → Holds f registers v → Typed registers n kind (operand.Reg (record { 0 = v }))
+register_typed : (f : Function) (registers : Registers) (n : ℕ) (kind : IrType) (v : ℕ) → IsScalar kind
+    → same_type kind (kind_of f v) ≡ true → Holds f registers v
+    → Typed registers n kind (operand.Reg (record { 0 = v }))
 register_typed f registers n kind v scalar same held =
     let typed : is_of_type kind held.value ≡ true = rw (same_scalar kind (kind_of f v) scalar same) held.typed in
     (held.value, kept_by_type kind (registers v) held.value held.set typed, typed)
 
-pub operand_typed : (f : Function) (registers : Registers) (n : ℕ) (kind : IrType) (value : Operand) → IsScalar kind → fits f kind value ≡ true → ((v : ℕ) → value ≡ operand.Reg (record { 0 = v }) → Holds f registers v) → (x : Value) × (operand_value registers n kind value ≡ Some x) × (is_of_type kind x ≡ true)
+pub operand_typed : (f : Function) (registers : Registers) (n : ℕ) (kind : IrType) (value : Operand) → IsScalar kind
+    → fits f kind value ≡ true → ((v : ℕ) → value ≡ operand.Reg (record { 0 = v }) → Holds f registers v)
+    → (x : Value) × (operand_value registers n kind value ≡ Some x) × (is_of_type kind x ≡ true)
 operand_typed f registers n kind (operand.Reg v) scalar fit held =
     register_typed f registers n kind v.0 scalar fit (held v.0 refl)
 operand_typed f registers n (Int w) (operand.Num z) scalar fit held =
@@ -99,13 +104,17 @@ operand_typed f registers n Ptr (operand.Num z) scalar fit held = absurd (false�
 operand_typed f registers n Void value scalar fit held = absurd scalar
 operand_typed f registers n (Array dims w) value scalar fit held = absurd scalar
 
-first_held : (f : Function) (registers : Registers) (value : Operand) (rest : List Operand) → HoldsOperands f registers (value ∷ rest) → HoldsIn f registers value
+first_held : (f : Function) (registers : Registers) (value : Operand) (rest : List Operand)
+    → HoldsOperands f registers (value ∷ rest) → HoldsIn f registers value
 first_held f registers value rest held v is = held v (0, omega arith, is)
 
-rest_held : (f : Function) (registers : Registers) (value : Operand) (rest : List Operand) → HoldsOperands f registers (value ∷ rest) → HoldsOperands f registers rest
+rest_held : (f : Function) (registers : Registers) (value : Operand) (rest : List Operand)
+    → HoldsOperands f registers (value ∷ rest) → HoldsOperands f registers rest
 rest_held f registers value rest held v inside = held v (suc inside.0, omega (arith, inside.1), inside.2)
 
-first_typed : (f : Function) (registers : Registers) (n : ℕ) (kind : IrType) (value : Operand) (others : List Operand) (more : Bool) → IsScalar kind → (fits f kind value && more) ≡ true → HoldsOperands f registers (value ∷ others) → Typed registers n kind value
+first_typed : (f : Function) (registers : Registers) (n : ℕ) (kind : IrType) (value : Operand) (others : List Operand)
+    (more : Bool) → IsScalar kind → (fits f kind value && more) ≡ true → HoldsOperands f registers (value ∷ others)
+    → Typed registers n kind value
 first_typed f registers n kind value others more scalar fit held =
     let fit' = (and_parts (fits f kind value) more fit).0 in
     operand_typed f registers n kind value scalar fit' (first_held f registers value others held)
@@ -120,33 +129,50 @@ Given kind outcome =
 gives_typed : (kind : IrType) (x : Value) → is_of_type kind x ≡ true → Given kind (Gives x)
 gives_typed kind x typed = inl (x, refl, typed)
 
-given_typed : (kind : IrType) (row : Option Value) → ((z : Value) → row ≡ Some z → is_of_type kind z ≡ true) → Given kind (given row)
+given_typed : (kind : IrType) (row : Option Value) → ((z : Value) → row ≡ Some z → is_of_type kind z ≡ true)
+    → Given kind (given row)
 given_typed kind None each = inr refl
 given_typed kind (Some z) each = inl (z, refl, each z refl)
 
-either_given : (kind : IrType) (first : Bool) (x y : Computed) → Given kind x → Given kind y → Given kind (cond first x y)
+either_given : (kind : IrType) (first : Bool) (x y : Computed) → Given kind x → Given kind y
+    → Given kind (cond first x y)
 either_given kind true x y left right = left
 either_given kind false x y left right = right
 
 -- What follows from an operand is so where it follows so from each value of its type.
-with_typed : (registers : Registers) (n : ℕ) (kind out : IrType) (value : Operand) (what : Value → Computed) → Typed registers n kind value → ((x : Value) → is_of_type kind x ≡ true → Given out (what x)) → Given out (with_value (operand_value registers n kind value) what)
+with_typed : (registers : Registers) (n : ℕ) (kind out : IrType) (value : Operand) (what : Value → Computed)
+    → Typed registers n kind value → ((x : Value) → is_of_type kind x ≡ true → Given out (what x))
+    → Given out (with_value (operand_value registers n kind value) what)
 with_typed registers n kind out value what typed each = rw typed.1 (each typed.0 typed.2)
 
-with_two : (registers : Registers) (n : ℕ) (kind out : IrType) (left right : Operand) (what : Value → Value → Computed) → Typed registers n kind left → Typed registers n kind right → ((a b : Value) → is_of_type kind a ≡ true → is_of_type kind b ≡ true → Given out (what a b)) → Given out (with_value (operand_value registers n kind left) (λ a. with_value (operand_value registers n kind right) (λ b. what a b)))
+with_two : (registers : Registers) (n : ℕ) (kind out : IrType) (left right : Operand)
+    (what : Value → Value → Computed) → Typed registers n kind left → Typed registers n kind right
+    → ((a b : Value) → is_of_type kind a ≡ true → is_of_type kind b ≡ true → Given out (what a b))
+    → Given out (with_value (operand_value registers n kind left)
+    (λ a. with_value (operand_value registers n kind right) (λ b. what a b)))
 with_two registers n kind out left right what first second each =
     let after_first = λ (a : Value). with_value (operand_value registers n kind right) (λ b. what a b) in
     with_typed registers n kind out left after_first first (λ a p.
     with_typed registers n kind out right (λ b. what a b) second (λ b q. each a b p q))
 
 -- two operands of one type
-of_two : (f : Function) (registers : Registers) (n : ℕ) (kind out : IrType) (left right : Operand) (what : Value → Value → Computed) → IsScalar kind → operands_fit f (at_type kind left ∷ at_type kind right ∷ []) ≡ true → HoldsOperands f registers (left ∷ right ∷ []) → ((a b : Value) → is_of_type kind a ≡ true → is_of_type kind b ≡ true → Given out (what a b)) → Given out (with_value (operand_value registers n kind left) (λ a. with_value (operand_value registers n kind right) (λ b. what a b)))
+of_two : (f : Function) (registers : Registers) (n : ℕ) (kind out : IrType) (left right : Operand)
+    (what : Value → Value → Computed) → IsScalar kind
+    → operands_fit f (at_type kind left ∷ at_type kind right ∷ []) ≡ true
+    → HoldsOperands f registers (left ∷ right ∷ [])
+    → ((a b : Value) → is_of_type kind a ≡ true → is_of_type kind b ≡ true → Given out (what a b))
+    → Given out (with_value (operand_value registers n kind left)
+    (λ a. with_value (operand_value registers n kind right) (λ b. what a b)))
 of_two f registers n kind out left right what scalar fit held each =
     let second = (and_parts (fits f kind left) (fits f kind right && true) fit).1 in
     with_two registers n kind out left right what
     (first_typed f registers n kind left (right ∷ []) (fits f kind right && true) scalar fit held)
     (first_typed f registers n kind right [] true scalar second (rest_held f registers left (right ∷ []) held)) each
 
-binary_given : (f : Function) (registers : Registers) (n : ℕ) (op : BinOp) (nuw nsw exact disjoint : Bool) (kind : IrType) (left right : Operand) → types_fit f (Binary op nuw nsw exact disjoint kind left right) ≡ true → HoldsOperands f registers (left ∷ right ∷ []) → Given kind (computed registers n (Binary op nuw nsw exact disjoint kind left right))
+binary_given : (f : Function) (registers : Registers) (n : ℕ) (op : BinOp) (nuw nsw exact disjoint : Bool)
+    (kind : IrType) (left right : Operand) → types_fit f (Binary op nuw nsw exact disjoint kind left right) ≡ true
+    → HoldsOperands f registers (left ∷ right ∷ [])
+    → Given kind (computed registers n (Binary op nuw nsw exact disjoint kind left right))
 binary_given f registers n op nuw nsw exact disjoint (Int w) left right types held =
     let row = binary_row op nuw nsw exact disjoint w in
     of_two f registers n (Int w) (Int w) left right (λ a b. given (row a b)) tt types held (λ a b p q.
@@ -155,12 +181,19 @@ binary_given f registers n op nuw nsw exact disjoint Ptr left right types held =
 binary_given f registers n op nuw nsw exact disjoint Void left right types held = absurd (false≢true types)
 binary_given f registers n op nuw nsw exact disjoint (Array dims w) left right types held = absurd (false≢true types)
 
-pointers_given : (f : Function) (registers : Registers) (n : ℕ) (equal : Bool) (left right : Operand) → operands_fit f (at_type Ptr left ∷ at_type Ptr right ∷ []) ≡ true → HoldsOperands f registers (left ∷ right ∷ []) → Given (Int 1) (with_value (operand_value registers n Ptr left) (λ a. with_value (operand_value registers n Ptr right) (λ b. Gives (compared_pointers equal n a b))))
+pointers_given : (f : Function) (registers : Registers) (n : ℕ) (equal : Bool) (left right : Operand)
+    → operands_fit f (at_type Ptr left ∷ at_type Ptr right ∷ []) ≡ true
+    → HoldsOperands f registers (left ∷ right ∷ [])
+    → Given (Int 1) (with_value (operand_value registers n Ptr left)
+    (λ a. with_value (operand_value registers n Ptr right) (λ b. Gives (compared_pointers equal n a b))))
 pointers_given f registers n equal left right types held =
     of_two f registers n Ptr (Int 1) left right (λ a b. Gives (compared_pointers equal n a b)) tt types held (λ a b p q.
     gives_typed (Int 1) (compared_pointers equal n a b) (pointers_typed equal n a b))
 
-icmp_given : (f : Function) (registers : Registers) (n : ℕ) (pred : Pred) (kind : IrType) (left right : Operand) → IsScalar kind → operands_fit f (at_type kind left ∷ at_type kind right ∷ []) ≡ true → misuses_pointer (Icmp pred kind left right) ≡ false → HoldsOperands f registers (left ∷ right ∷ []) → Given (Int 1) (computed registers n (Icmp pred kind left right))
+icmp_given : (f : Function) (registers : Registers) (n : ℕ) (pred : Pred) (kind : IrType) (left right : Operand)
+    → IsScalar kind → operands_fit f (at_type kind left ∷ at_type kind right ∷ []) ≡ true
+    → misuses_pointer (Icmp pred kind left right) ≡ false → HoldsOperands f registers (left ∷ right ∷ [])
+    → Given (Int 1) (computed registers n (Icmp pred kind left right))
 icmp_given f registers n pred (Int w) left right scalar types pointers held =
     let row = on_numbers (compared pred w) in
     of_two f registers n (Int w) (Int 1) left right (λ a b. Gives (row a b)) tt types held (λ a b p q.
@@ -185,7 +218,10 @@ leads_to_int cast.Zext from to wider = (and_parts (is_int to) _ wider).0
 leads_to_int cast.Sext from to wider = (and_parts (is_int to) _ wider).0
 leads_to_int cast.Trunc from to wider = (and_parts (is_int to) _ wider).0
 
-cast_given : (f : Function) (registers : Registers) (n : ℕ) (op : CastOp) (nneg : Bool) (from to : IrType) (value : Operand) → types_fit f (Cast op nneg from value to) ≡ true → converts op from to ≡ true → is_int to ≡ true → HoldsOperands f registers (value ∷ []) → Given to (computed registers n (Cast op nneg from value to))
+cast_given : (f : Function) (registers : Registers) (n : ℕ) (op : CastOp) (nneg : Bool) (from to : IrType)
+    (value : Operand) → types_fit f (Cast op nneg from value to) ≡ true → converts op from to ≡ true
+    → is_int to ≡ true → HoldsOperands f registers (value ∷ [])
+    → Given to (computed registers n (Cast op nneg from value to))
 cast_given f registers n op nneg (Int v) (Int w) value types wider int held =
     let typed = first_typed f registers n (Int v) value [] true tt types held in
     with_typed registers n (Int v) (Int w) value (λ x. Gives (converted op nneg v w x)) typed (λ x p.
@@ -198,12 +234,15 @@ cast_given f registers n op nneg Void to value types wider int held = absurd (fa
 cast_given f registers n op nneg (Array dims w) to value types wider int held = absurd (false≢true types)
 
 -- an arm of a `select`, which has the type of the first one
-arm_given : (registers : Registers) (n : ℕ) (out : IrType) (typed : TypedOperand) → typed.kind ≡ out → Typed registers n typed.kind typed.value → Given out (arm_value registers n typed)
+arm_given : (registers : Registers) (n : ℕ) (out : IrType) (typed : TypedOperand) → typed.kind ≡ out
+    → Typed registers n typed.kind typed.value → Given out (arm_value registers n typed)
 arm_given registers n out typed is has =
     with_typed registers n typed.kind out typed.value Gives has (λ x p.
     gives_typed out x (subst (λ (kind : IrType). is_of_type kind x ≡ true) is p))
 
-arms_given : (registers : Registers) (n : ℕ) (out : IrType) (left right : TypedOperand) (test : Value) → IsScalar out → Given out (arm_value registers n left) → Given out (arm_value registers n right) → Given out (chosen_arm registers n left right test)
+arms_given : (registers : Registers) (n : ℕ) (out : IrType) (left right : TypedOperand) (test : Value) → IsScalar out
+    → Given out (arm_value registers n left) → Given out (arm_value registers n right)
+    → Given out (chosen_arm registers n left right test)
 arms_given registers n out left right (value.Number c) scalar first second =
     either_given out (c == 0) (arm_value registers n right) (arm_value registers n left) second first
 arms_given registers n out left right (value.Pointer block offset) scalar first second =
@@ -213,7 +252,10 @@ arms_given registers n out left right value.Null scalar first second =
 arms_given registers n out left right value.Poison scalar first second =
     gives_typed out value.Poison (poison_typed out scalar)
 
-select_given : (f : Function) (registers : Registers) (n : ℕ) (test : Operand) (left right : TypedOperand) → IsScalar left.kind → IsScalar right.kind → types_fit f (Select test left right) ≡ true → HoldsOperands f registers (test ∷ left.value ∷ right.value ∷ []) → Given left.kind (computed registers n (Select test left right))
+select_given : (f : Function) (registers : Registers) (n : ℕ) (test : Operand) (left right : TypedOperand)
+    → IsScalar left.kind → IsScalar right.kind → types_fit f (Select test left right) ≡ true
+    → HoldsOperands f registers (test ∷ left.value ∷ right.value ∷ [])
+    → Given left.kind (computed registers n (Select test left right))
 select_given f registers n test left right one other types held =
     let arms = left ∷ right ∷ [] in
     let agree = and_parts (same_type left.kind right.kind) (operands_fit f (wanted (Select test left right))) types in
@@ -239,7 +281,9 @@ same_as_int Ptr w same = absurd (false≢true same)
 same_as_int Void w same = absurd (false≢true same)
 same_as_int (Array dims v) w same = absurd (false≢true same)
 
-called_given : (registers : Registers) (n w : ℕ) (named : Option MinMax) (left right : Operand) → is_some named ≡ true → Typed registers n (Int w) left → Typed registers n (Int w) right → Given (Int w) (called registers n w named left right)
+called_given : (registers : Registers) (n w : ℕ) (named : Option MinMax) (left right : Operand) → is_some named ≡ true
+    → Typed registers n (Int w) left → Typed registers n (Int w) right
+    → Given (Int w) (called registers n w named left right)
 called_given registers n w None left right is first second = absurd (false≢true is)
 called_given registers n w (Some kind) left right is first second =
     let row = on_numbers (min_max_row kind w) in
@@ -247,7 +291,9 @@ called_given registers n w (Some kind) left right is first second =
     gives_typed (Int w) (row a b) (min_max_typed kind w a b p q))
 
 -- an argument of the type of the call
-arg_typed : (f : Function) (registers : Registers) (n w : ℕ) (arg : TypedOperand) (rest : List Operand) (more others : Bool) → (same_type arg.kind (Int w) && others) ≡ true → (fits f arg.kind arg.value && more) ≡ true → HoldsOperands f registers (arg.value ∷ rest) → Typed registers n (Int w) arg.value
+arg_typed : (f : Function) (registers : Registers) (n w : ℕ) (arg : TypedOperand) (rest : List Operand)
+    (more others : Bool) → (same_type arg.kind (Int w) && others) ≡ true → (fits f arg.kind arg.value && more) ≡ true
+    → HoldsOperands f registers (arg.value ∷ rest) → Typed registers n (Int w) arg.value
 arg_typed f registers n w arg rest more others same fit held =
     let is = same_as_int arg.kind w (and_parts (same_type arg.kind (Int w)) others same).0 in
     let stands = subst (λ (kind : IrType). (fits f kind arg.value && more) ≡ true) is fit in
@@ -256,7 +302,10 @@ arg_typed f registers n w arg rest more others same fit held =
 abbrev values_of : List TypedOperand → List Operand
 values_of args = map (λ (typed : TypedOperand). typed.value) args
 
-two_args_given : (f : Function) (registers : Registers) (n w : ℕ) (callee : List ℕ) (args : List TypedOperand) → is_some (min_max_named callee) ≡ true → same_types (kinds_of args) (Int w ∷ Int w ∷ []) ≡ true → operands_fit f args ≡ true → HoldsOperands f registers (values_of args) → Given (Int w) (computed registers n (Call (Int w) callee args))
+two_args_given : (f : Function) (registers : Registers) (n w : ℕ) (callee : List ℕ) (args : List TypedOperand)
+    → is_some (min_max_named callee) ≡ true → same_types (kinds_of args) (Int w ∷ Int w ∷ []) ≡ true
+    → operands_fit f args ≡ true → HoldsOperands f registers (values_of args)
+    → Given (Int w) (computed registers n (Call (Int w) callee args))
 two_args_given f registers n w callee (left ∷ right ∷ []) is same fit held =
     let same' = same_type right.kind (Int w) && true in
     let fit' = fits f right.kind right.value && true in
@@ -277,14 +326,20 @@ needed : (is fit : Bool) → is ≡ true → (not is || fit) ≡ true → fit �
 needed true fit given both = both
 needed false fit given both = absurd (false≢true given)
 
-call_of_kind : (f : Function) (registers : Registers) (n : ℕ) (ret : IrType) (callee : List ℕ) (args : List TypedOperand) → is_some (min_max_named callee) ≡ true → is_min_max_of ret callee ≡ true → same_types (kinds_of args) (ret ∷ ret ∷ []) ≡ true → operands_fit f args ≡ true → HoldsOperands f registers (values_of args) → Given ret (computed registers n (Call ret callee args))
+call_of_kind : (f : Function) (registers : Registers) (n : ℕ) (ret : IrType) (callee : List ℕ)
+    (args : List TypedOperand) → is_some (min_max_named callee) ≡ true → is_min_max_of ret callee ≡ true
+    → same_types (kinds_of args) (ret ∷ ret ∷ []) ≡ true → operands_fit f args ≡ true
+    → HoldsOperands f registers (values_of args) → Given ret (computed registers n (Call ret callee args))
 call_of_kind f registers n (Int w) callee args is named same fit held =
     two_args_given f registers n w callee args is same fit held
 call_of_kind f registers n Ptr callee args is named same fit held = absurd (false≢true named)
 call_of_kind f registers n Void callee args is named same fit held = absurd (false≢true named)
 call_of_kind f registers n (Array dims w) callee args is named same fit held = absurd (false≢true named)
 
-call_given : (signatures : Signatures) (f : Function) (registers : Registers) (n : ℕ) (ret : IrType) (callee : List ℕ) (args : List TypedOperand) → is_some (min_max_named callee) ≡ true → call_fits signatures (Call ret callee args) ≡ true → operands_fit f args ≡ true → HoldsOperands f registers (values_of args) → Given ret (computed registers n (Call ret callee args))
+call_given : (signatures : Signatures) (f : Function) (registers : Registers) (n : ℕ) (ret : IrType) (callee : List ℕ)
+    (args : List TypedOperand) → is_some (min_max_named callee) ≡ true
+    → call_fits signatures (Call ret callee args) ≡ true → operands_fit f args ≡ true
+    → HoldsOperands f registers (values_of args) → Given ret (computed registers n (Call ret callee args))
 call_given signatures f registers n ret callee args is calls fit held =
     let agrees = is_min_max_of ret callee && same_types (kinds_of args) (ret ∷ ret ∷ []) in
     let both = needed (is_min_max callee) agrees is (and_parts (not (is_min_max callee) || agrees) _ calls).0 in
@@ -293,7 +348,10 @@ call_given signatures f registers n ret callee args is calls fit held =
 
 -- ---- all operations that are computed
 
-op_given : (signatures : Signatures) (f : Function) (registers : Registers) (n : ℕ) (op : Op) → IsFormed op → types_fit f op ≡ true → widths_fit op ≡ true → misuses_pointer op ≡ false → call_fits signatures op ≡ true → IsBuiltOp op → is_terminator op ≡ false → is_phi op ≡ false → HoldsOperands f registers (operands op) → Given (given_type op) (computed registers n op)
+op_given : (signatures : Signatures) (f : Function) (registers : Registers) (n : ℕ) (op : Op) → IsFormed op
+    → types_fit f op ≡ true → widths_fit op ≡ true → misuses_pointer op ≡ false → call_fits signatures op ≡ true
+    → IsBuiltOp op → is_terminator op ≡ false → is_phi op ≡ false → HoldsOperands f registers (operands op)
+    → Given (given_type op) (computed registers n op)
 op_given signatures f registers n (Binary op nuw nsw exact disjoint kind left right) _ types _ _ _ _ _ _ held =
     binary_given f registers n op nuw nsw exact disjoint kind left right types held
 op_given signatures f registers n (Icmp pred kind left right) formed types _ pointers _ _ _ _ held =
@@ -317,7 +375,11 @@ op_given signatures f registers n (Switch kind value other cases) _ _ _ _ _ _ en
 op_given signatures f registers n (Ret value) _ _ _ _ _ _ ends _ _ = absurd (true≢false ends)
 op_given signatures f registers n Unreachable _ _ _ _ _ _ ends _ _ = absurd (true≢false ends)
 
-pub computed_typed : (signatures : Signatures) (f : Function) (b : ℕ) (instr : Instr) (registers : Registers) (n : ℕ) → Facts signatures f b instr → IsBuiltOp instr.op → is_terminator instr.op ≡ false → is_phi instr.op ≡ false → HoldsOperands f registers (operands instr.op) → ((x : Value) × (computed registers n instr.op ≡ Gives x) × (is_of_type (given_type instr.op) x ≡ true)) ⊎ (computed registers n instr.op ≡ Fails phase.Undefined)
+pub computed_typed : (signatures : Signatures) (f : Function) (b : ℕ) (instr : Instr) (registers : Registers) (n : ℕ)
+    → Facts signatures f b instr → IsBuiltOp instr.op → is_terminator instr.op ≡ false → is_phi instr.op ≡ false
+    → HoldsOperands f registers (operands instr.op)
+    → ((x : Value) × (computed registers n instr.op ≡ Gives x) × (is_of_type (given_type instr.op) x ≡ true))
+    ⊎ (computed registers n instr.op ≡ Fails phase.Undefined)
 computed_typed signatures f b instr registers n facts built ends phi held =
     op_given signatures f registers n instr.op
     facts.formed.op facts.types facts.widths facts.pointers facts.calls built ends phi held
@@ -345,7 +407,9 @@ contains_first x xs = (0, omega arith, refl)
 contains_more : (y x : ℕ) (xs : List ℕ) → Contains xs x → Contains (y ∷ xs) x
 contains_more y x xs inside = (suc inside.0, omega (arith, inside.1), inside.2)
 
-by_typed : (registers : Registers) (n : ℕ) (kind : IrType) (value : Operand) (blocks : List ℕ) (what : Value → Way) → Typed registers n kind value → ((x : Value) → Leads blocks (what x)) → Leads blocks (by_value (operand_value registers n kind value) what)
+by_typed : (registers : Registers) (n : ℕ) (kind : IrType) (value : Operand) (blocks : List ℕ) (what : Value → Way)
+    → Typed registers n kind value → ((x : Value) → Leads blocks (what x))
+    → Leads blocks (by_value (operand_value registers n kind value) what)
 by_typed registers n kind value blocks what typed each = rw typed.1 (each typed.0)
 
 one_target : (first : Bool) (there other : ℕ) → Contains (there ∷ other ∷ []) (cond first other there)
@@ -368,7 +432,8 @@ one_more : (other to x : ℕ) (rest : List ℕ) → Contains (other ∷ rest) x 
 one_more other to x rest (zero, less, is) = (0, omega arith, is)
 one_more other to x rest (suc k, less, is) = (suc (suc k), omega (arith, less), is)
 
-this_or_later : (first : Bool) (other to x : ℕ) (rest : List ℕ) → Contains (other ∷ rest) x → Contains (other ∷ to ∷ rest) (cond first to x)
+this_or_later : (first : Bool) (other to x : ℕ) (rest : List ℕ) → Contains (other ∷ rest) x
+    → Contains (other ∷ to ∷ rest) (cond first to x)
 this_or_later true other to x rest later = contains_more other to (to ∷ rest) (contains_first to rest)
 this_or_later false other to x rest later = one_more other to x rest later
 
@@ -379,14 +444,17 @@ case_leads w (one ∷ cases) other x =
     let found = case_target w cases other x in
     this_or_later (residue w one.number == x) other one.to.0 found later (case_leads w cases other x)
 
-switch_leads : (w : ℕ) (cases : List Case) (other : ℕ) (x : Value) → Leads (blocks_of other cases) (switched w cases other x)
+switch_leads : (w : ℕ) (cases : List Case) (other : ℕ) (x : Value)
+    → Leads (blocks_of other cases) (switched w cases other x)
 switch_leads w cases other (value.Number x) =
     enters (blocks_of other cases) (case_target w cases other x) (case_leads w cases other x)
 switch_leads w cases other (value.Pointer block offset) = undefined (blocks_of other cases)
 switch_leads w cases other value.Null = undefined (blocks_of other cases)
 switch_leads w cases other value.Poison = undefined (blocks_of other cases)
 
-int_switch : (f : Function) (registers : Registers) (n : ℕ) (kind : IrType) (value : Operand) (other : BlockId) (cases : List Case) → types_fit f (Switch kind value other cases) ≡ true → HoldsOperands f registers (value ∷ []) → Leads (blocks_of other.0 cases) (way registers n (Switch kind value other cases))
+int_switch : (f : Function) (registers : Registers) (n : ℕ) (kind : IrType) (value : Operand) (other : BlockId)
+    (cases : List Case) → types_fit f (Switch kind value other cases) ≡ true → HoldsOperands f registers (value ∷ [])
+    → Leads (blocks_of other.0 cases) (way registers n (Switch kind value other cases))
 int_switch f registers n (Int w) value other cases types held =
     let op = Switch (Int w) value other cases in
     let fit = (and_parts (types_agree op) (operands_fit f (wanted op)) types).1 in
@@ -397,7 +465,8 @@ int_switch f registers n Ptr value other cases types held = absurd (false≢true
 int_switch f registers n Void value other cases types held = absurd (false≢true types)
 int_switch f registers n (Array dims w) value other cases types held = absurd (false≢true types)
 
-op_leads : (f : Function) (registers : Registers) (n : ℕ) (op : Op) → IsFormed op → types_fit f op ≡ true → is_terminator op ≡ true → HoldsOperands f registers (operands op) → Leads (targets op) (way registers n op)
+op_leads : (f : Function) (registers : Registers) (n : ℕ) (op : Op) → IsFormed op → types_fit f op ≡ true
+    → is_terminator op ≡ true → HoldsOperands f registers (operands op) → Leads (targets op) (way registers n op)
 op_leads f registers n (Jump to) formed types ends held = enters (to.0 ∷ []) to.0 (contains_first to.0 [])
 op_leads f registers n (Branch test there other) formed types ends held =
     let typed = first_typed f registers n (Int 1) test [] true tt types held in
@@ -423,6 +492,9 @@ op_leads f registers n (Load kind from) _ _ ends _ = absurd (false≢true ends)
 op_leads f registers n (Store kind value to) _ _ ends _ = absurd (false≢true ends)
 op_leads f registers n (Gep inbounds kind base indices) _ _ ends _ = absurd (false≢true ends)
 
-pub way_typed : (signatures : Signatures) (f : Function) (b : ℕ) (instr : Instr) (registers : Registers) (n : ℕ) → Facts signatures f b instr → is_terminator instr.op ≡ true → HoldsOperands f registers (operands instr.op) → ((to : ℕ) × (way registers n instr.op ≡ Enters to) × Contains (targets instr.op) to) ⊎ ((how : Phase) × (way registers n instr.op ≡ Leaves how) × (how ≢ phase.Stuck) × (how ≢ phase.Running))
+pub way_typed : (signatures : Signatures) (f : Function) (b : ℕ) (instr : Instr) (registers : Registers) (n : ℕ)
+    → Facts signatures f b instr → is_terminator instr.op ≡ true → HoldsOperands f registers (operands instr.op)
+    → ((to : ℕ) × (way registers n instr.op ≡ Enters to) × Contains (targets instr.op) to)
+    ⊎ ((how : Phase) × (way registers n instr.op ≡ Leaves how) × (how ≢ phase.Stuck) × (how ≢ phase.Running))
 way_typed signatures f b instr registers n facts ends held =
     op_leads f registers n instr.op facts.formed.op facts.types ends held

@@ -69,7 +69,8 @@ one_of_two w false a b left right = number_typed w b right
 abbrev OnNumbers : ℕ → ℕ → (ℕ → ℕ → Value) → Type 0
 OnNumbers v w row = (a b : ℕ) → a < 2 ^ v → b < 2 ^ v → IsOf w (row a b)
 
-on_numbers_typed : (v w : ℕ) (row : ℕ → ℕ → Value) (x y : Value) → IsOf v x → IsOf v y → OnNumbers v w row → IsOf w (on_numbers row x y)
+on_numbers_typed : (v w : ℕ) (row : ℕ → ℕ → Value) (x y : Value) → IsOf v x → IsOf v y → OnNumbers v w row
+    → IsOf w (on_numbers row x y)
 on_numbers_typed v w row (value.Number a) (value.Number b) left right each =
     each a b (typed_number v a left) (typed_number v b right)
 on_numbers_typed v w row (value.Number a) (value.Pointer block offset) left right each = refl
@@ -82,33 +83,39 @@ on_numbers_typed v w row value.Poison y left right each = refl
 -- ---- operations of two operands
 
 -- what a division by a number gives, where it is defined
-by_number : (w : ℕ) (row : ℕ → ℕ → Value) (x z : Value) (b : ℕ) (none : Bool) → IsOf w x → IsOf w (value.Number b) → OnNumbers w w row → cond none None (Some (on_numbers row x (value.Number b))) ≡ Some z → IsOf w z
+by_number : (w : ℕ) (row : ℕ → ℕ → Value) (x z : Value) (b : ℕ) (none : Bool) → IsOf w x → IsOf w (value.Number b)
+    → OnNumbers w w row → cond none None (Some (on_numbers row x (value.Number b))) ≡ Some z → IsOf w z
 by_number w row x z b true left right each given = absurd cc
 by_number w row x z b false left right each given =
     let typed = on_numbers_typed w w row x (value.Number b) left right each in
     rw (← same_Some (on_numbers row x (value.Number b)) z given) typed
 
-by_divisor_typed : (w : ℕ) (row : ℕ → ℕ → Value) (x y z : Value) → IsOf w x → IsOf w y → OnNumbers w w row → by_divisor row x y ≡ Some z → IsOf w z
+by_divisor_typed : (w : ℕ) (row : ℕ → ℕ → Value) (x y z : Value) → IsOf w x → IsOf w y → OnNumbers w w row
+    → by_divisor row x y ≡ Some z → IsOf w z
 by_divisor_typed w row x (value.Number b) z left right each given = by_number w row x z b (b == 0) left right each given
 by_divisor_typed w row x (value.Pointer block offset) z left right each given = absurd cc
 by_divisor_typed w row x value.Null z left right each given = absurd cc
 by_divisor_typed w row x value.Poison z left right each given = absurd cc
 
-unless_undefined : (w : ℕ) (none : Bool) (given : Option Value) (z : Value) → (given ≡ Some z → IsOf w z) → cond none None given ≡ Some z → IsOf w z
+unless_undefined : (w : ℕ) (none : Bool) (given : Option Value) (z : Value) → (given ≡ Some z → IsOf w z)
+    → cond none None given ≡ Some z → IsOf w z
 unless_undefined w true given z each is = absurd cc
 unless_undefined w false given z each is = each is
 
-by_signed_divisor_typed : (w : ℕ) (row : ℕ → ℕ → Value) (x y z : Value) → IsOf w x → IsOf w y → OnNumbers w w row → by_signed_divisor w row x y ≡ Some z → IsOf w z
+by_signed_divisor_typed : (w : ℕ) (row : ℕ → ℕ → Value) (x y z : Value) → IsOf w x → IsOf w y → OnNumbers w w row
+    → by_signed_divisor w row x y ≡ Some z → IsOf w z
 by_signed_divisor_typed w row x y z left right each given =
     let typed = by_divisor_typed w row x y z left right each in
     unless_undefined w (is_minus_one w y && may_be_least w x) (by_divisor row x y) z typed given
 
 -- a row that is always defined
-always : (w : ℕ) (row : ℕ → ℕ → Value) (x y z : Value) → IsOf w x → IsOf w y → OnNumbers w w row → Some (on_numbers row x y) ≡ Some z → IsOf w z
+always : (w : ℕ) (row : ℕ → ℕ → Value) (x y z : Value) → IsOf w x → IsOf w y → OnNumbers w w row
+    → Some (on_numbers row x y) ≡ Some z → IsOf w z
 always w row x y z left right each given =
     rw (← same_Some (on_numbers row x y) z given) (on_numbers_typed w w row x y left right each)
 
-pub binary_typed : (op : BinOp) (nuw nsw exact disjoint : Bool) (w : ℕ) (x y z : Value) → is_of_type (Int w) x ≡ true → is_of_type (Int w) y ≡ true → binary_row op nuw nsw exact disjoint w x y ≡ Some z → is_of_type (Int w) z ≡ true
+pub binary_typed : (op : BinOp) (nuw nsw exact disjoint : Bool) (w : ℕ) (x y z : Value) → is_of_type (Int w) x ≡ true
+    → is_of_type (Int w) y ≡ true → binary_row op nuw nsw exact disjoint w x y ≡ Some z → is_of_type (Int w) z ≡ true
 binary_typed binary.Add nuw nsw exact disjoint w x y z left right given =
     always w _ x y z left right (λ a b p q. unless_mod w _ (a + b)) given
 binary_typed binary.Sub nuw nsw exact disjoint w x y z left right given =
@@ -142,7 +149,8 @@ binary_typed binary.Or nuw nsw exact disjoint w x y z left right given =
 
 -- ---- comparisons, minima and maxima
 
-pub compared_typed : (pred : Pred) (w : ℕ) (x y : Value) → is_of_type (Int w) x ≡ true → is_of_type (Int w) y ≡ true → is_of_type (Int 1) (on_numbers (compared pred w) x y) ≡ true
+pub compared_typed : (pred : Pred) (w : ℕ) (x y : Value) → is_of_type (Int w) x ≡ true → is_of_type (Int w) y ≡ true
+    → is_of_type (Int 1) (on_numbers (compared pred w) x y) ≡ true
 compared_typed pred w x y left right =
     on_numbers_typed w 1 (compared pred w) x y left right (λ a b p q.
     one_of_two 1 (holds pred w a b) 1 0 (omega arith) (omega arith))
@@ -153,7 +161,8 @@ chosen_typed Umax w a b left right = one_of_two w (nat_le a b) b a right left
 chosen_typed Smin w a b left right = one_of_two w (int_le (reading w a) (reading w b)) a b left right
 chosen_typed Smax w a b left right = one_of_two w (int_le (reading w a) (reading w b)) b a right left
 
-pub min_max_typed : (kind : MinMax) (w : ℕ) (x y : Value) → is_of_type (Int w) x ≡ true → is_of_type (Int w) y ≡ true → is_of_type (Int w) (on_numbers (min_max_row kind w) x y) ≡ true
+pub min_max_typed : (kind : MinMax) (w : ℕ) (x y : Value) → is_of_type (Int w) x ≡ true → is_of_type (Int w) y ≡ true
+    → is_of_type (Int w) (on_numbers (min_max_row kind w) x y) ≡ true
 min_max_typed kind w x y left right =
     on_numbers_typed w w (min_max_row kind w) x y left right (λ a b p q. chosen_typed kind w a b p q)
 
@@ -171,7 +180,8 @@ pointers_typed equal n x y = answered_typed equal n (same_pointer x y)
 
 -- ---- conversions
 
-pub converted_typed : (op : CastOp) (nneg : Bool) (v w : ℕ) (x : Value) → converts op (Int v) (Int w) ≡ true → is_of_type (Int v) x ≡ true → is_of_type (Int w) (converted op nneg v w x) ≡ true
+pub converted_typed : (op : CastOp) (nneg : Bool) (v w : ℕ) (x : Value) → converts op (Int v) (Int w) ≡ true
+    → is_of_type (Int v) x ≡ true → is_of_type (Int w) (converted op nneg v w x) ≡ true
 converted_typed cast.Zext nneg v w (value.Number a) wider typed =
     let less : v < w = ltb-true v w wider in
     let more : 2 ^ v ≤ 2 ^ w = pow_mono {i = v} {j = w} (omega arith) in
