@@ -142,12 +142,18 @@ const IN_ITEMS: [(&str, &str); 7] = [
         "define i32 @f() {\na:\n  ret i32 %y\n}\ndeclare void @g()\ndeclare void @g()\n",
         "scev: rule DuplicateName in item 2",
     ),
-    ("@g = global i32 null\n", "scev: rule TypeMismatch in item 0"),
+    (
+        "@g = global i32 null\n",
+        "scev: rule TypeMismatch in item 0",
+    ),
     (
         "@a = global i8 0\n@g = global [2 x i8] c\"abc\"\n",
         "scev: rule TypeMismatch in item 1",
     ),
-    ("@g = global i8 256\n", "scev: rule LiteralOutOfRange in item 0"),
+    (
+        "@g = global i8 256\n",
+        "scev: rule LiteralOutOfRange in item 0",
+    ),
     ("@g = global i7 0\n", "scev: rule BadWidth in item 0"),
     ("declare i65 @g()\n", "scev: rule BadWidth in item 0"),
 ];

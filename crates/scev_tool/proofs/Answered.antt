@@ -110,7 +110,7 @@ module _ (seen : Seen) (bytes : List ℕ) (call : Call seen bytes) where
   rules (status.Ill other function at) m rule number place h spelled fault short =
       let found = ill other function at h in
       let same = subst (λ (n : Module). IsFault n other function.0 at)
-          (one_module bytes found.0 m found.1 spelled) found.2 in
+      (one_module bytes found.0 m found.1 spelled) found.2 in
       let one = one_fault m other rule function.0 number at place same fault in
       inl (ap (λ (r : Rule). status.Ill r function at) one.0
       ∙ ap (λ (k : ℕ). status.Ill rule (record { 0 = k }) at) one.1
