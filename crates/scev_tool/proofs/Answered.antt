@@ -1,5 +1,5 @@
 -- Which status comes, by what is seen of a call.
-use Rattle.std.proofs.Common.{◌≡◌, ℕ, ◌<◌, ◌≤◌, List, [], length, Option, Some, None, ◌⊎◌, inl, inr, refl, sym, ap, subst, ◌∙◌, arith}
+use Rattle.std.proofs.Common.{◌≡◌, ℕ, ◌<◌, ◌≤◌, List, [], length, Option, Some, None, ◌⊎◌, inl, inr, refl, ap, subst, ◌∙◌, arith}
 use Rattle.std.proofs.Common.{IfSome}
 use Rattle.scev_base.specs.declared.ids.FuncId.{FuncId}
 use Rattle.ir_model.specs.declared.item.Module.{Module}
@@ -16,6 +16,8 @@ use Rattle.scev_tool.specs.declared.status.Status.{Status}
 use Rattle.scev_tool.specs.declared.status.Status.TheVariants as status
 use Rattle.scev_tool.specs.declared.mode.Mode.{Mode}
 use Rattle.scev_tool.specs.declared.mode.Mode.TheVariants as mode
+use Rattle.ir_accept.specs.Line.{fault_text}
+use Rattle.scev_tool.specs.Message.{IsOwnLine}
 use Rattle.scev_tool.specs.Status.{Refuses}
 use Rattle.scev_tool.specs.Mode.{AskFor, IsTextOf}
 use Rattle.scev_tool.specs.Answer.{Seen, OfInput, IsAnswer, input_limit}
@@ -43,6 +45,37 @@ pub of_input : (left_old left_new : Option (List ℕ)) (bytes : List ℕ) (Holds
     → IfSome left_old (λ left. (length left ≤ input_limit) × (left_new ≡ Some []) × Holds left)
 of_input None left_new bytes Holds all short holds = tt
 of_input (Some left) left_new bytes Holds all short holds = rw (← all.0) (short, all.1, holds)
+
+-- What holds of the bytes that are read, without the limit.
+told : (left_old left_new : Option (List ℕ)) (bytes : List ℕ) (Holds : List ℕ → Type 0)
+    → IfSome left_old (λ left. (bytes ≡ left) × (left_new ≡ Some []))
+    → Holds bytes
+    → IfSome left_old Holds
+told None left_new bytes Holds all holds = tt
+told (Some left) left_new bytes Holds all holds = rw (← all.0) holds
+
+-- The status and the line of a module that breaks a rule, unless there is no memory for the line.
+pub ill_answer : (seen : Seen) (which : Mode) → AskFor which seen.words → (bytes : List ℕ) (m : Module) (rule : Rule)
+    (function : FuncId) (place : Place) (s : Status) (line : List ℕ)
+    → IfSome seen.left_old (λ left. (bytes ≡ left) × (seen.left_new ≡ Some []))
+    → length bytes ≤ input_limit
+    → Spells bytes m
+    → IsFault m rule function.0 place
+    → ((s ≡ status.Ill rule function place) × (line ≡ fault_text m rule function.0 place))
+    ⊎ ((s ≡ status.OutOfMemory) × (line ≡ []))
+    → IsAnswer seen s × IsOwnLine seen.left_old s line
+ill_answer seen which asked bytes m rule function place s line all short spelled fault (inl l) = (
+  rw l.0 (
+    which,
+    asked,
+    of_input seen.left_old seen.left_new bytes
+        (λ bytes. (m : Module) × Spells bytes m × IsFault m rule function.0 place) all short (m, spelled, fault),
+  ),
+  rw l.0 (told seen.left_old seen.left_new bytes
+      (λ bytes. (m : Module) × Spells bytes m × (line ≡ fault_text m rule function.0 place)) all (m, spelled, l.1)),
+)
+ill_answer seen which asked bytes m rule function place s line all short spelled fault (inr l) =
+    (rw l.0 (which, asked, tt), rw l.0 l.1)
 
 -- A call whose words ask for a mode, with what its source had left.
 pub record Call (seen : Seen) (bytes : List ℕ) : Type 0 where

@@ -1,8 +1,6 @@
 -- What the two modes write.
 use Rattle.std.proofs.Common.{◌≡◌, ℕ, ◌<◌, ◌≤◌, ◌^◌, List, length, subst, sym, arith, All}
-use Rattle.std.specs.Prelude.{Contains}
 use Rattle.ir_model.specs.declared.function.Function.{Function}
-use Rattle.ir_model.specs.declared.item.Item.TheVariants.{Define}
 use Rattle.ir_model.specs.declared.item.Module.{Module}
 use Rattle.ir_rules.specs.Accepted.{IsAcceptedModule}
 use Rattle.ir_grammar.specs.Spelled.{Spells}

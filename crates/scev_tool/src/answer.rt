@@ -104,7 +104,7 @@ fn refused(alloc: Global, m: &Module, fault: Fault) -> Answered
     requires { HaveIds m.now }
     ensures { ((result.status ≡ Status.Ill fault.rule fault.function fault.place)
         × (result.line.items ≡ fault_text m.now fault.rule fault.function.0 fault.place))
-        ⊎ (result.status ≡ Status.OutOfMemory) }
+        ⊎ ((result.status ≡ Status.OutOfMemory) × (result.line.items ≡ [])) }
 {
     let Fault {
         rule,
