@@ -25,8 +25,8 @@ pub struct Fault {
 /// The first rule that a module breaks: on what stands outside functions, or else in the first function that isn't
 /// accepted. None comes exactly where the module breaks none.
 ///
-/// The error comes only where there is no memory. The time is that of `check_module`, and of `check_function`, `Flow::new`
-/// and `check_uses` for each function.
+/// The error comes only where there is no memory. The time is that of `check_module`, and of `check_function`,
+/// `Flow::new` and `check_uses` for each function.
 pub fn first_fault(alloc: Global, m: &Module) -> Result<Option<Fault>, AllocError>
     requires ids { HaveIds m.now }
     requires well_made { AreWellMade m.now }

@@ -1,5 +1,5 @@
-//! Whether a module is accepted: the first rule of well-formedness that it breaks, in which function and at which place;
-//! and the line that says so.
+//! Whether a module is accepted: the first rule of well-formedness that it breaks, in which function and at which
+//! place; and the line that says so.
 #![tactic(auto)]
 
 mod fault;

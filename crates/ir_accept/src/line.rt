@@ -13,8 +13,8 @@ use ir_printer::{Names, push_block_name, push_text_name, push_value_name};
 use itoa::Buffer;
 use std::alloc::{AllocError, Global};
 
-/// The line about a rule that a module breaks, with its line feed: `scev: rule CallMismatch in @f: %v`. Values and blocks
-/// are named as they are printed. The error comes only where there is no memory.
+/// The line about a rule that a module breaks, with its line feed: `scev: rule CallMismatch in @f: %v`. Values and
+/// blocks are named as they are printed. The error comes only where there is no memory.
 pub fn fault_line(alloc: Global, m: &Module, fault: Fault) -> Result<Vec<u8>, AllocError>
     requires ids { HaveIds m.now }
     ensures { IfOk result (λ line. line.items ≡ fault_text m.now fault.rule fault.function.0 fault.place) }

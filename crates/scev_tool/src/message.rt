@@ -69,8 +69,8 @@ fn write_message<E: Sink>(err: &mut E, status: Status) -> Result<(), Failed>
     }
 }
 
-/// Appends the line of a status: that of a broken rule is given, the others are the same for every module. `Failed` comes
-/// only where the sink's count of faults rose; a front of the line is then appended.
+/// Appends the line of a status: that of a broken rule is given, the others are the same for every module. `Failed`
+/// comes only where the sink's count of faults rose; a front of the line is then appended.
 pub fn write_line<E: Sink>(err: &mut E, status: Status, own: &[u8]) -> Result<(), Failed>
     ensures whole { OnOk result (Appended (E.taken err.old) (line_of status own.now) (E.taken err.new)) }
     ensures front { OnErr result (AppendedFront (E.taken err.old) (line_of status own.now) (E.taken err.new)) }

@@ -68,8 +68,8 @@ pub fn run<S: Source, K: Sink, E: Sink>(
         IsFault m rule number place → (Rose (S.faults source.old) (S.faults source.new) → ⊥) →
         (result ≡ Status.Ill rule (record { 0 = number }) place) ⊎ (result ≡ Status.OutOfMemory) }
 
-    // What spells none within the limit is refused, at its place and under its name, on the same conditions; and what is
-    // longer.
+    // What spells none within the limit is refused, at its place and under its name, on the same conditions; and what
+    // is longer.
     ensures refuses { (mode : Mode) (bytes : List ℕ) → AskFor mode words.now → S.left source.old ≡ Some bytes →
         length bytes ≤ input_limit → SpellsNone bytes →
         (Rose (S.faults source.old) (S.faults source.new) → ⊥) → Refuses result ⊎ (result ≡ Status.OutOfMemory) }
