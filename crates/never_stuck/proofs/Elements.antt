@@ -1,7 +1,7 @@
 -- Elements of lists: what a search, a filter and a list that is made of lists have.
-use Rattle.std.proofs.Common.{◌≡◌, ℕ, zero, suc, Bool, true, false, List, [], ◌∷◌, ◌++◌, map, flat_map, filter, find, Some, Contains, slice_get, refl, sym, ap, ◌∙◌, subst, inl, inr, arith}
+use Rattle.std.proofs.Common.{◌≡◌, ◌⊎◌, ℕ, zero, suc, Bool, true, false, List, [], ◌∷◌, ◌++◌, map, flat_map, filter, find, Some, Contains, slice_get, refl, sym, ap, ◌∙◌, subst, inl, inr, arith}
 use Rattle.std.specs.List.{list_any, list_all}
-use Rattle.std.proofs.lemmas.Bool.{cases_Bool, true≢false}
+use Rattle.std.proofs.lemmas.Bool.{cases_Bool, cases_eq, true≢false}
 use Rattle.std.proofs.lemmas.Option.{slice_get_within, get_or_from_slice_get}
 use Rattle.std.proofs.lemmas.List.Elements.{All-contains, All-filter, All-contains_itself, filter_passes, Contains-append_left, Contains-append_right, Contains-append_cases}
 use Rattle.std.proofs.lemmas.List.Folds.{list_any_at, Any-from_list_any}
@@ -15,12 +15,31 @@ contains_at xs k x at = (k, slice_get_within xs k x at, get_or_from_slice_get xs
 pub contains_more : {X : Type 0} (y : X) (xs : List X) (x : X) → Contains xs x → Contains (y ∷ xs) x
 contains_more y xs x there = (suc there.0, omega (arith, there.1), there.2)
 
+pub contains_none : {X : Type 0} (x : X) → Contains [] x → ⊥
+contains_none x there = omega (arith, there.1)
+
+pub contains_cases : {X : Type 0} (x : X) (xs : List X) (y : X) → Contains (x ∷ xs) y → (x ≡ y) ⊎ Contains xs y
+contains_cases x xs y (zero, within, is) = inl is
+contains_cases x xs y (suc k, within, is) = inr (k, omega arith, is)
+
+-- a number is in a list, or it isn't
+pub contains_or_not : (xs : List ℕ) (y : ℕ) → Contains xs y ⊎ (Contains xs y → ⊥)
+contains_or_not [] y = inr (contains_none y)
+contains_or_not (x ∷ xs) y =
+    elim (cases_eq x y) [
+      | inl e ↦ inl (0, omega arith, e)
+      | inr apart ↦
+          elim (contains_or_not xs y) [
+            | inl there ↦ inl (contains_more x xs y there)
+            | inr none ↦
+                inr (λ there. elim (contains_cases x xs y there) [ inl e ↦ apart e | inr later ↦ none later ])
+          ]
+    ]
+
 -- ---- lists of nothing
 
 pub nothing_in : {X : Type 0} (xs : List X) (x : X) → xs ≡ [] → Contains xs x → ⊥
-nothing_in xs x e there =
-    let here : Contains [] x = subst (λ (ys : List _). Contains ys x) e there in
-    omega (arith, here.1)
+nothing_in xs x e there = contains_none x (subst (λ (ys : List _). Contains ys x) e there)
 
 pub map_none : {X Y : Type 0} (g : X → Y) (xs : List X) → map g xs ≡ [] → xs ≡ []
 map_none g [] e = refl

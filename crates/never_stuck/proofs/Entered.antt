@@ -1,6 +1,6 @@
 -- A block that is entered from a sound state: its phis all have values, and the state behind them is sound.
 use Rattle.std.proofs.Common.{◌≡◌, ℕ, ◌<◌, ◌⊎◌, true, List, [], ◌∷◌, length, map, Option, Some, option_and_then, Contains, slice_get, refl, sym, ◌∙◌, inl, inr, subst, ap, arith}
-use Rattle.std.proofs.lemmas.Bool.{and_parts, false≢true}
+use Rattle.std.proofs.lemmas.Bool.{and_parts}
 use Rattle.std.proofs.lemmas.Option.{same_Some, slice_get_within}
 use Rattle.std.specs.List.{list_all}
 use Rattle.scev_base.specs.declared.ids.BlockId.{BlockId}
@@ -9,7 +9,6 @@ use Rattle.ir_model.specs.declared.op.Operand.{Operand}
 use Rattle.ir_model.specs.declared.op.Operand.TheVariants as operand
 use Rattle.ir_model.specs.declared.op.PhiEntry.{PhiEntry}
 use Rattle.ir_model.specs.declared.op.TypedOperand.{TypedOperand}
-use Rattle.ir_model.specs.declared.op.Op.{Op}
 use Rattle.ir_model.specs.declared.op.Op.TheVariants.{Phi}
 use Rattle.ir_model.specs.declared.function.Instr.{Instr}
 use Rattle.ir_model.specs.declared.function.Block.{Block}
@@ -18,7 +17,7 @@ use Rattle.ir_model.specs.declared.signature.Signatures.{Signatures}
 use Rattle.ir_model.specs.Defined.{given_type}
 use Rattle.ir_model.specs.Kinds.{IsScalar}
 use Rattle.ir_model.specs.Places.{place_of}
-use Rattle.ir_model.specs.Shapes.{block_of, leading_phis, is_terminator, is_phi}
+use Rattle.ir_model.specs.Shapes.{block_of, leading_phis, is_terminator}
 use Rattle.ir_model.specs.Walks.{Edge}
 use Rattle.ir_model.specs.Walks.Trail.{enters}
 use Rattle.ir_model.specs.WellMade.{IsFormed}
@@ -30,17 +29,18 @@ use Rattle.ir_meaning.specs.Values.{is_of_type}
 use Rattle.ir_meaning.specs.Operands.{operand_value}
 use Rattle.ir_meaning.specs.Step.{phi_value, with_phis, behind_phis}
 use Rattle.ir_meaning.proofs.LeadingPhis.{leading_at}
+use Rattle.never_stuck.proofs.Elements.{contains_none, contains_cases}
 use Rattle.never_stuck.proofs.Sound.{Holds, StandsIn, Sound}
-use Rattle.never_stuck.proofs.Shown.{Accepts, Computes}
-use Rattle.never_stuck.proofs.Members.{contains_none, contains_cases}
+use Rattle.ir_model.specs.WellMade.{IsWellMade}
+use Rattle.ir_rules.specs.Accepted.{IsAccepted}
+use Rattle.never_stuck.proofs.EnteredPhis.{entry_for, phi_shape}
+use Rattle.never_stuck.proofs.Accepted.{facts_at, leading_ends}
+use Rattle.never_stuck.proofs.DefinedOnce.{given_there}
+use Rattle.never_stuck.proofs.TypedOps.{operand_typed}
+use Rattle.never_stuck.proofs.DefinedTypes.{result_typed}
 use Rattle.never_stuck.proofs.Passed.{use_passed, phi_use}
 use Rattle.never_stuck.proofs.Registers.{SuitsResult, HasPhiValue, GivenIn, held_phis}
 use Rattle.never_stuck.proofs.Standing.{some_within, held_at_end}
-
--- what a phi is
-phi_shape : (op : Op) → is_phi op ≡ true → (kind : IrType) × (entries : List PhiEntry) × (op ≡ Phi kind entries)
-phi_shape (Phi kind entries) is = (kind, entries, refl)
-phi_shape _ is = absurd (false≢true is)
 
 -- the operand of each entry fits where a phi's types do
 entry_fits : (f : Function) (kind : IrType) (entries : List PhiEntry) (entry : PhiEntry) → Contains entries entry
@@ -56,11 +56,11 @@ entry_fits f kind (first ∷ entries) entry there all =
       | inr later ↦ entry_fits f kind entries entry later parts.1
     ]
 
-module _ (signatures : Signatures) (f : Function) (accepts : Accepts signatures f) (computes : Computes signatures f)
+module _ (signatures : Signatures) (f : Function) (made : IsWellMade f) (accepted : IsAccepted signatures f)
     (defined : UsesAreDefined f) (s : State) (sound : Sound f s) (instr : Instr)
     (stands : StandsIn f s.block s.place sound.block instr) (last : is_terminator instr.op ≡ true) where
   left_held : (v : ℕ) → HasPassed f v sound.before s.block (size_of f s.block) → Holds f s.registers v
-  left_held = held_at_end signatures f accepts s sound instr stands last
+  left_held = held_at_end signatures f made accepted s sound instr stands last
 
   module _ (to : ℕ) (edge : Edge f s.block to) (block : Block) (there : block_of f to ≡ Some block) where
     -- ---- the values of phis
@@ -70,7 +70,7 @@ module _ (signatures : Signatures) (f : Function) (accepts : Accepts signatures 
       scalar : IsScalar kind
       scalar =
           let formed : IsFormed (Phi kind entries) =
-          subst IsFormed shape (accepts.facts_at to k block phi at).formed.op in
+          subst IsFormed shape (facts_at signatures f made accepted to k block phi at).formed.op in
           formed.0
 
       entry_held : (entry : PhiEntry) → Contains entries entry → entry.from.0 ≡ s.block → (v : ℕ)
@@ -85,16 +85,16 @@ module _ (signatures : Signatures) (f : Function) (accepts : Accepts signatures 
       suits_result : (x : Value) → is_of_type kind x ≡ true → SuitsResult f phi.result x
       suits_result x typed v gives =
           let own : kind_of f v ≡ kind =
-          accepts.result_typed to k block phi v at gives ∙ ap given_type shape in
+          result_typed signatures f made accepted to k block phi v at gives ∙ ap given_type shape in
           rw own typed
 
       phi_valued : (n : ℕ) → HasPhiValue f s.registers n s.block phi
       phi_valued n =
-          let entry = accepts.entry_for s.block to block k phi kind entries edge at shape in
+          let entry = entry_for signatures f made accepted s.block to block k phi kind entries edge at shape in
           let fit : types_fit f (Phi kind entries) ≡ true =
-          ap (types_fit f) (sym shape) ∙ (accepts.facts_at to k block phi at).types in
+          ap (types_fit f) (sym shape) ∙ (facts_at signatures f made accepted to k block phi at).types in
           let found =
-          computes.operand_typed s.registers n kind entry.0.value scalar (entry_fits f kind entries entry.0 entry.1 fit)
+          operand_typed f s.registers n kind entry.0.value scalar (entry_fits f kind entries entry.0 entry.1 fit)
           (entry_held entry.0 entry.1 entry.2) in
           record {
             value = found.0;
@@ -119,7 +119,7 @@ module _ (signatures : Signatures) (f : Function) (accepts : Accepts signatures 
         elim (contains_cases s.block sound.before at.0 among) [
           | inl own ↦
               let found : block_of f at.0 ≡ Some sound.block = rw (← own) sound.at in
-              let given = accepts.given_there v at i sound.block is found in
+              let given = given_there signatures f made accepted v at i sound.block is found in
               let size : size_of f s.block ≡ length sound.block.instrs = rw sound.at refl in
               let within : i < size_of f s.block =
               rw size (slice_get_within sound.block.instrs i given.0 given.1) in
@@ -132,7 +132,7 @@ module _ (signatures : Signatures) (f : Function) (accepts : Accepts signatures 
         → i < length (leading_phis block.instrs) → GivenIn f (leading_phis block.instrs) v
     given_leading v at i is own within =
         let found : block_of f at.0 ≡ Some block = rw own there in
-        let given = accepts.given_there v at i block is found in
+        let given = given_there signatures f made accepted v at i block is found in
         let phi = some_within (leading_phis block.instrs) i within in
         let leads = leading_at block.instrs phi.0 i phi.1 in
         let one : given.0 ≡ phi.0 = same_Some given.0 phi.0 (sym given.1 ∙ leads.0) in
@@ -165,7 +165,7 @@ module _ (signatures : Signatures) (f : Function) (accepts : Accepts signatures 
             walk = enters sound.walk edge;
             block = block;
             at = there;
-            within = accepts.leading_ends to block there;
+            within = leading_ends signatures f made accepted to block there;
             behind = omega arith;
             held = λ v passed. set.2 v (held_or_given v passed);
           },

@@ -86,9 +86,9 @@ first_block (block ∷ blocks) some = (
 )
 
 -- a phi, by what it is made of
-phi_parts : (op : Op) → is_phi op ≡ true → (kind : IrType) × (entries : List PhiEntry) × (op ≡ Phi kind entries)
-phi_parts (Phi kind entries) is = (kind, entries, refl)
-phi_parts _ is = absurd (false≢true is)
+pub phi_shape : (op : Op) → is_phi op ≡ true → (kind : IrType) × (entries : List PhiEntry) × (op ≡ Phi kind entries)
+phi_shape (Phi kind entries) is = (kind, entries, refl)
+phi_shape _ is = absurd (false≢true is)
 
 -- a phi has an entry, and so its block is led to
 some_comes_in : (entries : List PhiEntry) (coming : List ℕ) → entries ≢ []
@@ -159,7 +159,7 @@ module _ (signatures : Signatures) (f : Function) (made : IsWellMade f) (accepte
       elim (cases_Bool (is_phi instr.op)) [
         | inl is ↦
             let stands : StandsIn f (entry f.blocks) 0 block instr = record { block = at; instr = there } in
-            let phi = phi_parts instr.op is in
+            let phi = phi_shape instr.op is in
             let formed : IsFormed (Phi phi.0 phi.1) = subst IsFormed phi.2
             (facts_at signatures f made accepted (entry f.blocks) 0 block instr stands).formed.op in
             let source = some_comes_in phi.1 (incoming f (entry f.blocks)) formed.1

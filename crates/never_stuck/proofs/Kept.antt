@@ -18,7 +18,11 @@ use Rattle.ir_meaning.specs.Operands.{chosen}
 use Rattle.ir_meaning.specs.Step.{Computed, Gives, Fails, Way, Enters, Leaves, computed, way, gone, entered, after_effect, after_way, instr_at, carried_out, step}
 use Rattle.never_stuck.specs.NeverStuck.{IsBuilt}
 use Rattle.never_stuck.proofs.Sound.{StandsIn, Sound}
-use Rattle.never_stuck.proofs.Shown.{Accepts, Computes}
+use Rattle.ir_model.specs.WellMade.{IsWellMade}
+use Rattle.ir_rules.specs.Accepted.{IsAccepted}
+use Rattle.never_stuck.proofs.TypedOps.{computed_typed, way_typed}
+use Rattle.never_stuck.proofs.Accepted.{ends_at, facts_at}
+use Rattle.never_stuck.proofs.DefinedTypes.{result_typed}
 use Rattle.never_stuck.proofs.Elements.{contains_at, flat_map_has}
 use Rattle.never_stuck.proofs.Registers.{SuitsResult, held_set}
 use Rattle.never_stuck.proofs.Standing.{built_at, stands_at, at_instr, no_phi, operands_held, passed_next}
@@ -36,7 +40,7 @@ carried_on f choice s instr running at =
     let runs : is_running s.phase ≡ true = rw running refl in
     rw (runs, at) refl
 
-module _ (signatures : Signatures) (f : Function) (accepts : Accepts signatures f) (computes : Computes signatures f)
+module _ (signatures : Signatures) (f : Function) (made : IsWellMade f) (accepted : IsAccepted signatures f)
     (defined : UsesAreDefined f) (built : IsBuilt f) (choice : Choice) (s : State) (sound : Sound f s)
     (running : s.phase ≡ phase.Running) where
   module _ (instr : Instr) (stands : StandsIn f s.block s.place sound.block instr) where
@@ -47,9 +51,9 @@ module _ (signatures : Signatures) (f : Function) (accepts : Accepts signatures 
           → Sound f (after_effect instr.result s (gone s (Gives x)))
       next_sound x typed =
           let within : suc s.place < length sound.block.instrs =
-          accepts.ends_at s.block s.place sound.block instr stands other in
+          ends_at signatures f made accepted s.block s.place sound.block instr stands other in
           let suits : SuitsResult f instr.result x =
-          λ v gives. rw (accepts.result_typed s.block s.place sound.block instr v stands gives) typed in
+          λ v gives. rw (result_typed signatures f made accepted s.block s.place sound.block instr v stands gives) typed in
           record {
             before = sound.before;
             trail = sound.trail;
@@ -60,7 +64,7 @@ module _ (signatures : Signatures) (f : Function) (accepts : Accepts signatures 
             behind = omega (arith, sound.behind);
             held = λ v passed.
                 held_set f s.registers instr.result x suits v
-                (elim (passed_next signatures f accepts s sound instr stands v (s.place + 1) (omega arith) passed) [
+                (elim (passed_next signatures f made accepted s sound instr stands v (s.place + 1) (omega arith) passed) [
                   | inl before ↦ inl (sound.held v before)
                   | inr gives ↦ inr gives
                 ]);
@@ -77,12 +81,12 @@ module _ (signatures : Signatures) (f : Function) (accepts : Accepts signatures 
 
       pub on_well : IsWell f (carried_out f choice s (Some instr))
       on_well =
-          let held = operands_held signatures f accepts s sound instr stands defined in
+          let held = operands_held signatures f made accepted s sound instr stands defined in
           let known =
-          computes.computed_typed s.block instr s.registers (chosen choice)
-          (accepts.facts_at s.block s.place sound.block instr stands)
-          (built_at signatures f accepts built s.block s.place sound.block instr stands) other
-          (no_phi signatures f accepts s sound instr stands) held in
+          computed_typed signatures f s.block instr s.registers (chosen choice)
+          (facts_at signatures f made accepted s.block s.place sound.block instr stands)
+          (built_at signatures f made accepted built s.block s.place sound.block instr stands) other
+          (no_phi signatures f made accepted s sound instr stands) held in
           rw other (goes_well (computed s.registers (chosen choice) instr.op) refl known)
 
     -- ---- one that ends its block
@@ -99,9 +103,9 @@ module _ (signatures : Signatures) (f : Function) (accepts : Accepts signatures 
       entered_well : (to : ℕ) → Contains (targets instr.op) to
           → IsWell f (entered (chosen choice) to s (block_of f to))
       entered_well to leads =
-          let found = (accepts.facts_at s.block s.place sound.block instr stands).leads to leads in
+          let found = (facts_at signatures f made accepted s.block s.place sound.block instr stands).leads to leads in
           let next =
-          entered_sound signatures f accepts computes defined s sound instr stands last to (edge_to to leads) found.0
+          entered_sound signatures f made accepted defined s sound instr stands last to (edge_to to leads) found.0
           found.1 (chosen choice) in
           rw (found.1, next.1) (inl (next.2, running))
 
@@ -117,19 +121,19 @@ module _ (signatures : Signatures) (f : Function) (accepts : Accepts signatures 
 
       pub off_well : IsWell f (carried_out f choice s (Some instr))
       off_well =
-          let held = operands_held signatures f accepts s sound instr stands defined in
+          let held = operands_held signatures f made accepted s sound instr stands defined in
           let known =
-          computes.way_typed s.block instr s.registers (chosen choice)
-          (accepts.facts_at s.block s.place sound.block instr stands) last held in
+          way_typed signatures f s.block instr s.registers (chosen choice)
+          (facts_at signatures f made accepted s.block s.place sound.block instr stands) last held in
           rw last (left_well (way s.registers (chosen choice) instr.op) known)
 
     instr_well : IsWell f (step f choice s)
     instr_well =
-        let at = at_instr signatures f accepts s sound instr stands in
+        let at = at_instr signatures f made accepted s sound instr stands in
         rw (carried_on f choice s instr running at)
         (elim (cases_Bool (is_terminator instr.op)) [ inl last ↦ off_well last | inr other ↦ on_well other ])
 
   pub step_sound : IsWell f (step f choice s)
   step_sound =
-      let there = stands_at signatures f accepts s sound in
+      let there = stands_at signatures f made accepted s sound in
       instr_well there.0 there.1

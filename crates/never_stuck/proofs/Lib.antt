@@ -4,13 +4,10 @@ pub mod DefinedTypes
 pub mod Elements
 pub mod Entered
 pub mod EnteredPhis
-pub mod Filled
 pub mod Kept
-pub mod Members
 pub mod Passed
 pub mod Registers
 pub mod Runs
-pub mod Shown
 pub mod Sound
 pub mod Standing
 pub mod Started

@@ -20,8 +20,7 @@ use Rattle.ir_rules.specs.Uses.{Use, size_of, op_uses, uses_from, uses, HasPasse
 use Rattle.ir_meaning.proofs.ListPlaces.{contained_at}
 use Rattle.never_stuck.proofs.Sound.{StandsIn}
 use Rattle.never_stuck.proofs.Accepted.{block_in}
-use Rattle.never_stuck.proofs.Elements.{map_has, flat_map_has}
-use Rattle.never_stuck.proofs.Members.{contains_or_not}
+use Rattle.never_stuck.proofs.Elements.{map_has, flat_map_has, contains_or_not}
 
 -- ---- whether a walk has passed a value
 

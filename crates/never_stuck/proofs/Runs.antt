@@ -10,7 +10,8 @@ use Rattle.ir_meaning.specs.State.{State, is_running}
 use Rattle.ir_meaning.specs.Step.{step}
 use Rattle.ir_meaning.specs.Run.{start, after}
 use Rattle.never_stuck.specs.NeverStuck.{IsBuilt, NeverStuck}
-use Rattle.never_stuck.proofs.Shown.{Accepts, Computes}
+use Rattle.ir_model.specs.WellMade.{IsWellMade}
+use Rattle.ir_rules.specs.Accepted.{IsAccepted}
 use Rattle.never_stuck.proofs.Started.{start_sound}
 use Rattle.never_stuck.proofs.Kept.{IsWell, step_sound}
 
@@ -32,12 +33,12 @@ not_stuck f t well stuck =
       | inr ended ↦ ended.2 (sym ended.1 ∙ stuck)
     ]
 
-module _ (signatures : Signatures) (f : Function) (accepts : Accepts signatures f) (computes : Computes signatures f)
+module _ (signatures : Signatures) (f : Function) (made : IsWellMade f) (accepted : IsAccepted signatures f)
     (defined : UsesAreDefined f) (built : IsBuilt f) where
   step_well : (choice : Choice) (s : State) → IsWell f s → IsWell f (step f choice s)
   step_well choice s well =
       elim well [
-        | inl runs ↦ step_sound signatures f accepts computes defined built choice s runs.0 runs.1
+        | inl runs ↦ step_sound signatures f made accepted defined built choice s runs.0 runs.1
         | inr ended ↦ rw (stays_ended f choice s (λ running. ended.3 (sym ended.1 ∙ running))) (inr ended)
       ]
 
@@ -47,6 +48,6 @@ module _ (signatures : Signatures) (f : Function) (accepts : Accepts signatures 
 
   pub never_stuck : NeverStuck f
   never_stuck args memory fit choices =
-      let first = start_sound signatures f accepts args memory fit in
+      let first = start_sound signatures f made accepted args memory fit in
       not_stuck f (after f (start f args memory) choices)
       (after_well choices (start f args memory) (inl (first, refl)))

@@ -20,7 +20,10 @@ use Rattle.ir_meaning.specs.Step.{instr_at}
 use Rattle.ir_meaning.specs.Run.{GivesTo}
 use Rattle.never_stuck.specs.NeverStuck.{IsBuiltOp, IsBuilt}
 use Rattle.never_stuck.proofs.Sound.{Holds, HoldsOperands, StandsIn, Sound}
-use Rattle.never_stuck.proofs.Shown.{Accepts}
+use Rattle.ir_model.specs.WellMade.{IsWellMade}
+use Rattle.ir_rules.specs.Accepted.{IsAccepted}
+use Rattle.never_stuck.proofs.Accepted.{facts_at, last_at, no_late_phi}
+use Rattle.never_stuck.proofs.DefinedOnce.{given_there}
 use Rattle.never_stuck.proofs.Accepted.{block_in}
 use Rattle.never_stuck.proofs.Elements.{contains_at, flat_map_has}
 use Rattle.never_stuck.proofs.Passed.{use_passed, operand_use}
@@ -37,7 +40,7 @@ ends_without : (op : Op) → is_terminator op ≡ true → MayHaveResult op → 
 ends_without (Store kind value to) last may = may
 ends_without _ last may = false≢true (sym may ∙ last)
 
-module _ (signatures : Signatures) (f : Function) (accepts : Accepts signatures f) where
+module _ (signatures : Signatures) (f : Function) (made : IsWellMade f) (accepted : IsAccepted signatures f) where
   -- an instruction of a built function is built
   pub built_at : IsBuilt f → (b i : ℕ) (block : Block) (instr : Instr) → StandsIn f b i block instr
       → IsBuiltOp instr.op
@@ -59,7 +62,7 @@ module _ (signatures : Signatures) (f : Function) (accepts : Accepts signatures 
           ∙ stands.instr
 
       pub no_phi : is_phi instr.op ≡ false
-      no_phi = accepts.no_late_phi s.block s.place sound.block instr stands sound.behind
+      no_phi = no_late_phi signatures f made accepted s.block s.place sound.block instr stands sound.behind
 
       pub operands_held : UsesAreDefined f → HoldsOperands f s.registers (operands instr.op)
       operands_held defined v there =
@@ -72,7 +75,7 @@ module _ (signatures : Signatures) (f : Function) (accepts : Accepts signatures 
           → GivesTo v instr
       defined_here v at i is same here =
           let own : block_of f at.0 ≡ Some sound.block = rw same sound.at in
-          let given = accepts.given_there v at i sound.block is own in
+          let given = given_there signatures f made accepted v at i sound.block is own in
           let one : given.0 ≡ instr =
           same_Some given.0 instr (sym given.1 ∙ ap (λ (k : ℕ). slice_get sound.block.instrs k) here ∙ stands.instr) in
           rw (← one) given.2
@@ -98,7 +101,7 @@ module _ (signatures : Signatures) (f : Function) (accepts : Accepts signatures 
       module _ (last : is_terminator instr.op ≡ true) where
         gives_none : (v : ℕ) → GivesTo v instr → ⊥
         gives_none v gives =
-            let facts = accepts.facts_at s.block s.place sound.block instr stands in
+            let facts = facts_at signatures f made accepted s.block s.place sound.block instr stands in
             ends_without instr.op last
             (subst (λ (result : Option ValueId). IsResultOf instr.op result) gives facts.formed.result)
 
@@ -108,7 +111,7 @@ module _ (signatures : Signatures) (f : Function) (accepts : Accepts signatures 
             let size : size_of f s.block ≡ length sound.block.instrs =
             ap (λ (o : Option Block). unwrap_or (option_map (λ (block : Block). length block.instrs) o) 0) sound.at in
             let next : size_of f s.block ≡ suc s.place =
-            size ∙ sym (accepts.last_at s.block s.place sound.block instr stands last) in
+            size ∙ sym (last_at signatures f made accepted s.block s.place sound.block instr stands last) in
             elim (passed_next v (size_of f s.block) next passed) [
               | inl before ↦ sound.held v before
               | inr gives ↦ absurd (gives_none v gives)

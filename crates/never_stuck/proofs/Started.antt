@@ -8,18 +8,22 @@ use Rattle.ir_rules.specs.Uses.{HasPassed}
 use Rattle.ir_memory.specs.Memory.{Memory}
 use Rattle.ir_meaning.specs.declared.value.Value.{Value}
 use Rattle.ir_meaning.specs.Run.{ArgsFit, with_args, start}
+use Rattle.never_stuck.proofs.Elements.{contains_none}
 use Rattle.never_stuck.proofs.Sound.{Holds, Sound}
-use Rattle.never_stuck.proofs.Shown.{Accepts}
-use Rattle.never_stuck.proofs.Members.{contains_none}
+use Rattle.ir_model.specs.WellMade.{IsWellMade}
+use Rattle.ir_rules.specs.Accepted.{IsAccepted}
+use Rattle.never_stuck.proofs.EnteredPhis.{entry_block}
+use Rattle.never_stuck.proofs.DefinedTypes.{param_typed}
+use Rattle.never_stuck.proofs.Accepted.{some_instr}
 use Rattle.never_stuck.proofs.Registers.{held_args}
 
-module _ (signatures : Signatures) (f : Function) (accepts : Accepts signatures f) (args : List Value)
+module _ (signatures : Signatures) (f : Function) (made : IsWellMade f) (accepted : IsAccepted signatures f) (args : List Value)
     (memory : Memory) (fit : ArgsFit memory f.params args) where
   -- parameters alone are passed at the start
   held_at_start : (v : ℕ) → HasPassed f v [] (entry f.blocks) 0 → Holds f (with_args (λ v. None) f.params args) v
   held_at_start v passed =
       elim passed [
-        | inl param ↦ held_args f memory f.params args (λ v. None) fit accepts.param_typed v (inr param)
+        | inl param ↦ held_args f memory f.params args (λ v. None) fit (param_typed signatures f made accepted) v (inr param)
         | inr there ↦
             elim there.3 [
               | inl earlier ↦ absurd (contains_none there.0.0 earlier)
@@ -29,7 +33,7 @@ module _ (signatures : Signatures) (f : Function) (accepts : Accepts signatures 
 
   pub start_sound : Sound f (start f args memory)
   start_sound =
-      let first = accepts.entry_block in
+      let first = entry_block signatures f made accepted in
       let behind : length (leading_phis first.0.instrs) ≤ 0 = rw first.2 (omega arith) in
       record {
         before = [];
@@ -37,7 +41,7 @@ module _ (signatures : Signatures) (f : Function) (accepts : Accepts signatures 
         walk = begins;
         block = first.0;
         at = first.1;
-        within = accepts.some_instr (entry f.blocks) first.0 first.1;
+        within = some_instr signatures f made accepted (entry f.blocks) first.0 first.1;
         behind = behind;
         held = held_at_start;
       }
