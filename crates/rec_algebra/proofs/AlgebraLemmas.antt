@@ -38,20 +38,24 @@ module _ {A : Type 0} {Admits : A → Type 0} {plus times : A → A → A} (laws
   list_sum_closed (x ∷ xs) [] hx hy = hx
   list_sum_closed (x ∷ xs) (y ∷ ys) hx hy = (laws.plus_closed x y hx.0 hy.0, list_sum_closed xs ys hx.1 hy.1)
 
-  product_over_closed : (x : A) (below : List A → List A) (ys : List A) → Admits x → ((zs : List A) → Each Admits zs → Each Admits (below zs)) → Each Admits ys → Each Admits (product_over plus times x below ys)
+  product_over_closed : (x : A) (below : List A → List A) (ys : List A) → Admits x
+      → ((zs : List A) → Each Admits zs → Each Admits (below zs)) → Each Admits ys
+      → Each Admits (product_over plus times x below ys)
   product_over_closed x below [] hx hb hy = tt
   product_over_closed x below (y ∷ ys) hx hb hy = (
     laws.times_closed x y hx hy.0,
     list_sum_closed _ _ (list_sum_closed _ _ (product_over_closed x below ys hx hb hy.1) (hb (y ∷ ys) hy)) (hb ys hy.1),
   )
 
-  pub list_product_closed : (xs ys : List A) → Each Admits xs → Each Admits ys → Each Admits (list_product plus times xs ys)
+  pub list_product_closed : (xs ys : List A) → Each Admits xs → Each Admits ys
+      → Each Admits (list_product plus times xs ys)
   list_product_closed [] ys hx hy = tt
   list_product_closed (x ∷ xs) ys hx hy =
       product_over_closed x (list_product plus times xs) ys hx.0 (λ zs hz. list_product_closed xs zs hx.1 hz) hy
 
   -- (a + b) + (c + d) as (a + c) + (b + d)
-  pub medial : (a b c d : A) → Admits a → Admits b → Admits c → Admits d → plus (plus a b) (plus c d) ≡ plus (plus a c) (plus b d)
+  pub medial : (a b c d : A) → Admits a → Admits b → Admits c → Admits d
+      → plus (plus a b) (plus c d) ≡ plus (plus a c) (plus b d)
   medial a b c d ha hb hc hd =
       laws.plus_assoc a b (plus c d) ha hb (laws.plus_closed c d hc hd)
       ∙ ap (plus a) (sym (laws.plus_assoc b c d hb hc hd) ∙ ap (λ z. plus z d) (laws.plus_comm b c hb hc) ∙ laws.plus_assoc c b d hc hb hd)
@@ -63,12 +67,14 @@ module _ {A : Type 0} {Admits : A → Type 0} {plus times : A → A → A} (laws
       laws.plus_assoc a b c ha hb hc ∙ ap (plus a) (laws.plus_comm b c hb hc) ∙ sym (laws.plus_assoc a c b ha hc hb)
 
   -- a + ((b + c) + d) as (a + c) + (b + d)
-  pub regrouped : (a b c d : A) → Admits a → Admits b → Admits c → Admits d → plus a (plus (plus b c) d) ≡ plus (plus a c) (plus b d)
+  pub regrouped : (a b c d : A) → Admits a → Admits b → Admits c → Admits d
+      → plus a (plus (plus b c) d) ≡ plus (plus a c) (plus b d)
   regrouped a b c d ha hb hc hd =
       ap (plus a) (ap (λ z. plus z d) (laws.plus_comm b c hb hc) ∙ laws.plus_assoc c b d hc hb hd)
       ∙ sym (laws.plus_assoc a c (plus b d) ha hc (laws.plus_closed b d hb hd))
 
-  pub distributes_right : (a b c : A) → Admits a → Admits b → Admits c → times (plus a b) c ≡ plus (times a c) (times b c)
+  pub distributes_right : (a b c : A) → Admits a → Admits b → Admits c
+      → times (plus a b) c ≡ plus (times a c) (times b c)
   distributes_right a b c ha hb hc =
       laws.times_comm (plus a b) c (laws.plus_closed a b ha hb) hc
       ∙ laws.distributes c a b hc ha hb
@@ -76,7 +82,8 @@ module _ {A : Type 0} {Admits : A → Type 0} {plus times : A → A → A} (laws
       ∙ ap (plus (times a c)) (laws.times_comm c b hc hb)
 
   -- (a + b) · (c + d), multiplied out
-  pub multiplied_out : (a b c d : A) → Admits a → Admits b → Admits c → Admits d → plus (times a c) (plus (plus (times a d) (times b c)) (times b d)) ≡ times (plus a b) (plus c d)
+  pub multiplied_out : (a b c d : A) → Admits a → Admits b → Admits c → Admits d
+      → plus (times a c) (plus (plus (times a d) (times b c)) (times b d)) ≡ times (plus a b) (plus c d)
   multiplied_out a b c d ha hb hc hd =
       regrouped (times a c) (times a d) (times b c) (times b d) (laws.times_closed a c ha hc) (laws.times_closed a d ha hd) (laws.times_closed b c hb hc) (laws.times_closed b d hb hd)
       ∙ sym (laws.distributes (plus a b) c d (laws.plus_closed a b ha hb) hc hd
@@ -90,7 +97,8 @@ module _ {A : Type 0} {Admits : A → Type 0} {plus times : A → A → A} (laws
   value_of_single (suc turn) x = refl
 
   -- The value of a sum is the sum of the values.
-  pub value_of_sum : (turn : ℕ) (x y : A) (xs ys : List A) → Admits x → Admits y → Each Admits xs → Each Admits ys → iterated plus turn (plus x y) (list_sum plus xs ys) ≡ plus (iterated plus turn x xs) (iterated plus turn y ys)
+  pub value_of_sum : (turn : ℕ) (x y : A) (xs ys : List A) → Admits x → Admits y → Each Admits xs → Each Admits ys
+      → iterated plus turn (plus x y) (list_sum plus xs ys) ≡ plus (iterated plus turn x xs) (iterated plus turn y ys)
   unfolding iterated
   value_of_sum zero x y xs ys hx hy hxs hys = refl
   value_of_sum (suc turn) x y [] [] hx hy hxs hys = refl
@@ -111,7 +119,9 @@ module _ {A : Type 0} {Admits : A → Type 0} {plus times : A → A → A} (laws
       list_sum plus (list_sum plus (list_product plus times (x ∷ xs) ys) (list_product plus times xs (y ∷ ys))) (list_product plus times xs ys)
 
   -- The value of a product is the product of the values: at the next turn it is (f + Df) · (g + Dg).
-  pub value_of_product : (turn : ℕ) (x y : A) (xs ys : List A) → Admits x → Admits y → Each Admits xs → Each Admits ys → iterated plus turn (times x y) (product_rest x xs y ys) ≡ times (iterated plus turn x xs) (iterated plus turn y ys)
+  pub value_of_product : (turn : ℕ) (x y : A) (xs ys : List A) → Admits x → Admits y → Each Admits xs → Each Admits ys
+      → iterated plus turn (times x y) (product_rest x xs y ys) ≡ times (iterated plus turn x xs)
+      (iterated plus turn y ys)
   unfolding iterated
   value_of_product zero x y xs ys hx hy hxs hys = refl
   value_of_product (suc turn) x y [] [] hx hy hxs hys = refl
@@ -140,22 +150,27 @@ module _ {A : Type 0} {Admits : A → Type 0} {plus times : A → A → A} (laws
       ∙ ap (plus (plus (times (iterated plus turn x (x' ∷ xs)) (iterated plus turn y' ys)) (times (iterated plus turn x' xs) (iterated plus turn y (y' ∷ ys))))) (value_of_product turn x' y' xs ys hxs.0 hys.0 hxs.1 hys.1))
       ∙ multiplied_out _ _ _ _ (value_closed turn x (x' ∷ xs) hx hxs) (value_closed turn x' xs hxs.0 hxs.1) (value_closed turn y (y' ∷ ys) hy hys) (value_closed turn y' ys hys.0 hys.1)
 
-pub length-list_sum : {A : Type 0} (plus : A → A → A) (xs ys : List A) → length (list_sum plus xs ys) ≡ max (length xs) (length ys)
+pub length-list_sum : {A : Type 0} (plus : A → A → A) (xs ys : List A)
+    → length (list_sum plus xs ys) ≡ max (length xs) (length ys)
 length-list_sum plus [] ys = omega arith
 length-list_sum plus (x ∷ xs) [] = omega arith
 length-list_sum plus (x ∷ xs) (y ∷ ys) = omega (arith, length-list_sum plus xs ys)
 
 module _ {A : Type 0} (plus times : A → A → A) where
-  length-sum_of_three : (xs ys zs : List A) → length (list_sum plus (list_sum plus xs ys) zs) ≡ max (max (length xs) (length ys)) (length zs)
+  length-sum_of_three : (xs ys zs : List A)
+      → length (list_sum plus (list_sum plus xs ys) zs) ≡ max (max (length xs) (length ys)) (length zs)
   length-sum_of_three xs ys zs = omega (arith, length-list_sum plus (list_sum plus xs ys) zs, length-list_sum plus xs ys)
 
-  length-product_over_one : (x y : A) (ys : List A) → length (list_product plus times (x ∷ []) (y ∷ ys)) ≡ suc (length ys)
+  length-product_over_one : (x y : A) (ys : List A)
+      → length (list_product plus times (x ∷ []) (y ∷ ys)) ≡ suc (length ys)
   length-product_over_one x y [] = refl
   length-product_over_one x y (y' ∷ ys) =
       let first = list_product plus times (x ∷ []) (y' ∷ ys) in
       omega (arith, length-sum_of_three first [] [], length-product_over_one x y' ys)
 
-  length-product_over : (x x' : A) (xs : List A) (y : A) (ys : List A) → ((z : A) (zs : List A) → length (list_product plus times (x' ∷ xs) (z ∷ zs)) ≡ length xs + suc (length zs)) → length (list_product plus times (x ∷ x' ∷ xs) (y ∷ ys)) ≡ suc (length xs) + suc (length ys)
+  length-product_over : (x x' : A) (xs : List A) (y : A) (ys : List A)
+      → ((z : A) (zs : List A) → length (list_product plus times (x' ∷ xs) (z ∷ zs)) ≡ length xs + suc (length zs))
+      → length (list_product plus times (x ∷ x' ∷ xs) (y ∷ ys)) ≡ suc (length xs) + suc (length ys)
   length-product_over x x' xs y [] below =
       omega (arith, length-sum_of_three [] (list_product plus times (x' ∷ xs) (y ∷ [])) [], below y [])
   length-product_over x x' xs y (y' ∷ ys) below =
@@ -164,6 +179,7 @@ module _ {A : Type 0} (plus times : A → A → A) where
       let third = list_product plus times (x' ∷ xs) (y' ∷ ys) in
       omega (arith, length-sum_of_three first second third, length-product_over x x' xs y' ys below, below y (y' ∷ ys), below y' ys)
 
-  pub length-list_product : (x : A) (xs : List A) (y : A) (ys : List A) → length (list_product plus times (x ∷ xs) (y ∷ ys)) ≡ length xs + suc (length ys)
+  pub length-list_product : (x : A) (xs : List A) (y : A) (ys : List A)
+      → length (list_product plus times (x ∷ xs) (y ∷ ys)) ≡ length xs + suc (length ys)
   length-list_product x [] y ys = length-product_over_one x y ys ∙ omega arith
   length-list_product x (x' ∷ xs) y ys = length-product_over x x' xs y ys (length-list_product x' xs)

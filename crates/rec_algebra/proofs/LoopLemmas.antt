@@ -30,26 +30,39 @@ summed_turn parts formed count first second third first' second' third' a b c st
     ∙ ap (λ s. summed parts (record { steps = s; places = (sum a b c).places }) count first' second' third') (sym e)
     ∙ ap (λ p. summed parts (record { steps = steps; places = p }) count first' second' third') (sym e')
 
-pub summed_one_more : (parts : ℕ) (formed : Formed) (count i : ℕ) (first second third : List ℕ) (steps : List PlanStep) (places : List ℕ) → i < count → let sum = joined_three parts formed.steps (slice_get first i) (slice_get second i) (slice_get third i) in steps ≡ sum.steps → places ≡ with_place formed.places sum.place → summed parts formed (count - i) (drop i first) (drop i second) (drop i third) ≡ summed parts (record { steps = steps; places = places }) (count - (i + 1)) (drop (i + 1) first) (drop (i + 1) second) (drop (i + 1) third)
+pub summed_one_more : (parts : ℕ) (formed : Formed) (count i : ℕ) (first second third : List ℕ) (steps : List PlanStep)
+    (places : List ℕ) → i < count
+    → let sum = joined_three parts formed.steps (slice_get first i) (slice_get second i)
+    (slice_get third i) in steps ≡ sum.steps → places ≡ with_place formed.places sum.place
+    → summed parts formed (count - i) (drop i first) (drop i second)
+    (drop i third) ≡ summed parts (record { steps = steps; places = places }) (count - (i + 1)) (drop (i + 1) first)
+    (drop (i + 1) second) (drop (i + 1) third)
 summed_one_more parts formed count i first second third steps places inside e e' =
     let left : count - i ≡ suc (count - (i + 1)) = omega arith in
     let next : suc i ≡ i + 1 = omega arith in
     ap (λ k. summed parts formed k (drop i first) (drop i second) (drop i third)) left
     ∙ summed_turn parts formed (count - (i + 1)) (drop i first) (drop i second) (drop i third) (drop (i + 1) first) (drop (i + 1) second) (drop (i + 1) third) (slice_get first i) (slice_get second i) (slice_get third i) steps places (first_of_drop i first) (first_of_drop i second) (first_of_drop i third) (drop_one_of_drop i first ∙ ap (λ k. drop k first) next) (drop_one_of_drop i second ∙ ap (λ k. drop k second) next) (drop_one_of_drop i third ∙ ap (λ k. drop k third) next) e e'
 
-pub summed_end : (parts : ℕ) (formed : Formed) (count i : ℕ) (first second third : List ℕ) → count ≤ i → summed parts formed (count - i) first second third ≡ formed
+pub summed_end : (parts : ℕ) (formed : Formed) (count i : ℕ) (first second third : List ℕ) → count ≤ i
+    → summed parts formed (count - i) first second third ≡ formed
 unfolding summed
 summed_end parts formed count i first second third past =
     let none : count - i ≡ zero = omega arith in ap (λ k. summed parts formed k first second third) none
 
-pub product_row_none : (parts : ℕ) (steps : List PlanStep) (left start count : ℕ) (below : List (List ℕ)) → product_row parts steps left (range_with_len (start + count) (count - count)) below ≡ record { steps = steps; products = [] }
+pub product_row_none : (parts : ℕ) (steps : List PlanStep) (left start count : ℕ) (below : List (List ℕ))
+    → product_row parts steps left (range_with_len (start + count)
+    (count - count)) below ≡ record { steps = steps; products = [] }
 unfolding product_row
 product_row_none parts steps left start count below =
     let none : count - count ≡ zero = omega arith in
     ap (λ k. product_row parts steps left (range_with_len (start + count) k) below) none
 
 -- one product more at the front of a row
-pub product_row_one_more : (parts : ℕ) (steps : List PlanStep) (left start count j : ℕ) (below : List (List ℕ)) → j < count → let row = product_row parts steps left (range_with_len (start + (j + 1)) (count - (j + 1))) (drop (j + 1) below) in let product = multiplied parts row.steps left (start + j) (get_or row.products 0 []) (get_or below j []) (get_or below (j + 1) []) in product_row parts steps left (range_with_len (start + j) (count - j)) (drop j below) ≡ record { steps = product.steps; products = product.places ∷ row.products }
+pub product_row_one_more : (parts : ℕ) (steps : List PlanStep) (left start count j : ℕ) (below : List (List ℕ))
+    → j < count → let row = product_row parts steps left (range_with_len (start + (j + 1)) (count - (j + 1)))
+    (drop (j + 1) below) in let product = multiplied parts row.steps left (start + j) (get_or row.products 0 [])
+    (get_or below j []) (get_or below (j + 1) []) in product_row parts steps left (range_with_len (start + j)
+    (count - j)) (drop j below) ≡ record { steps = product.steps; products = product.places ∷ row.products }
 unfolding product_row
 product_row_one_more parts steps left start count j below inside =
     let more : count - j ≡ suc (count - (j + 1)) = omega arith in
@@ -63,7 +76,8 @@ product_row_one_more parts steps left start count j below inside =
     ∙ ap (λ first. with_row (product_row parts steps left (range_with_len (start + (j + 1)) (count - (j + 1))) (drop (j + 1) below)) first (get_or (drop j below) 1 [])) (get_or-drop j below 0 [] ∙ ap (λ k. get_or below k []) here)
     ∙ ap (λ second. with_row (product_row parts steps left (range_with_len (start + (j + 1)) (count - (j + 1))) (drop (j + 1) below)) (get_or below j []) second) (get_or-drop j below 1 [])
 
-pub product_table_none : (parts count : ℕ) (rights : List ℕ) → product_table parts (range_with_len count (count - count)) rights ≡ record { steps = []; products = [] }
+pub product_table_none : (parts count : ℕ) (rights : List ℕ)
+    → product_table parts (range_with_len count (count - count)) rights ≡ record { steps = []; products = [] }
 unfolding product_table
 product_table_none parts count rights =
     let none : count - count ≡ zero = omega arith in
@@ -95,7 +109,14 @@ product_row_turn parts steps left start count j next below before after products
     )
 
 -- A turn of the loop over rows.
-pub product_table_turn : (parts count i next start n : ℕ) (before after : List PlanStep) (products products' : List (List ℕ)) → next ≡ i + 1 → i < count → before ≡ (product_table parts (range_with_len next (count - next)) (range_with_len start n)).steps → products ≡ (product_table parts (range_with_len next (count - next)) (range_with_len start n)).products → after ≡ (product_row parts before i (range_with_len start n) products).steps → products' ≡ (product_row parts before i (range_with_len start n) products).products → let table = product_table parts (range_with_len i (count - i)) (range_with_len start n) in (after ≡ table.steps) × (products' ≡ table.products)
+pub product_table_turn : (parts count i next start n : ℕ) (before after : List PlanStep)
+    (products products' : List (List ℕ)) → next ≡ i + 1 → i < count
+    → before ≡ (product_table parts (range_with_len next (count - next)) (range_with_len start n)).steps
+    → products ≡ (product_table parts (range_with_len next (count - next)) (range_with_len start n)).products
+    → after ≡ (product_row parts before i (range_with_len start n) products).steps
+    → products' ≡ (product_row parts before i (range_with_len start n) products).products
+    → let table = product_table parts (range_with_len i (count - i)) (range_with_len start n) in (after ≡ table.steps)
+    × (products' ≡ table.products)
 product_table_turn parts count i next start n before after products products' en inside eb ep ea e =
     let rights = range_with_len start n in
     let below = product_table parts (range_with_len (i + 1) (count - (i + 1))) rights in
@@ -105,7 +126,8 @@ product_table_turn parts count i next start n before after products products' en
     ap (λ s. product_row parts s i rights products) eb' ∙ ap (λ l. product_row parts below.steps i rights l) ep' ∙ sym (product_table_one_more parts count i rights inside) in
     (ea ∙ ap (λ (r : Row). r.steps) same, e ∙ ap (λ (r : Row). r.products) same)
 
-pub product_table_end : (parts count i : ℕ) (rights : List ℕ) → i ≤ 0 → product_table parts (range_with_len i (count - i)) rights ≡ product_table parts (range_with_len 0 count) rights
+pub product_table_end : (parts count i : ℕ) (rights : List ℕ) → i ≤ 0
+    → product_table parts (range_with_len i (count - i)) rights ≡ product_table parts (range_with_len 0 count) rights
 product_table_end parts count i rights past =
     let none : i ≡ 0 = omega arith in
     let all : count - 0 ≡ count = omega arith in
@@ -115,7 +137,8 @@ plan_of : ℕ → List PlanStep → List ℕ → Plan
 plan_of parts steps results = record { parts = parts; steps = steps; results = results }
 
 -- A plan is known by what contracts see of it.
-pub plan_is : (plan : Plan) (parts : ℕ) (steps : List PlanStep) (results : List ℕ) → plan.parts ≡ parts → plan.steps ≡ steps → plan.results ≡ results → plan ≡ record { parts = parts; steps = steps; results = results }
+pub plan_is : (plan : Plan) (parts : ℕ) (steps : List PlanStep) (results : List ℕ) → plan.parts ≡ parts
+    → plan.steps ≡ steps → plan.results ≡ results → plan ≡ record { parts = parts; steps = steps; results = results }
 unfolding plan_of
 plan_is plan parts steps results e e' e'' =
     ap (λ p. plan_of p plan.steps plan.results) e ∙ ap (λ s. plan_of parts s plan.results) e' ∙ ap (λ r. plan_of parts steps r) e''
@@ -126,5 +149,6 @@ range_snoc start (suc count) =
     let place : start + suc count ≡ (start + 1) + count = omega arith in
     ap (λ k. start ∷ range_with_len (start + 1) count ++ k ∷ []) place ∙ ap (λ l. start ∷ l) (range_snoc (start + 1) count)
 
-pub range_one_more : (start count : ℕ) → range_with_len start count ++ (start + count) ∷ [] ≡ range_with_len start (count + 1)
+pub range_one_more : (start count : ℕ)
+    → range_with_len start count ++ (start + count) ∷ [] ≡ range_with_len start (count + 1)
 range_one_more start count = let next : suc count ≡ count + 1 = omega arith in range_snoc start count ∙ ap (range_with_len start) next

@@ -38,15 +38,18 @@ module _ {A : Type 0} (plus times : A → A → A) (default : A) (items : List A
     subst (λ n. All (λ place. place < n + length plan.steps) plan.results) forms.parts (all_from_each (λ place. place < length items + length plan.steps) plan.results (forming.each_inside plus times default items plan.steps plan.results values forms.has)),
   )
 
-  pub forms_carried : (plan : Plan) (values : List A) → Forms plan values → carried plus times default plan items ≡ values
+  pub forms_carried : (plan : Plan) (values : List A) → Forms plan values
+      → carried plus times default plan items ≡ values
   forms_carried plan values forms = forming.read_items plus times default items plan.steps plan.results values forms.has
 
-  left_parts : (m n : ℕ) → length items ≡ m + n → HasItems plus times default items [] (range_with_len 0 m) (take m items)
+  left_parts : (m n : ℕ) → length items ≡ m + n
+      → HasItems plus times default items [] (range_with_len 0 m) (take m items)
   left_parts m n same =
       let count : length (take m items) ≡ m = simp length-take (omega arith) in
       subst (λ k. HasItems plus times default items [] (range_with_len 0 k) (take m items)) count (forming.parts_have plus times default items 0 (take m items) (omega arith) (λ k inside. let below : k < m = omega arith in ap (λ j. get_or items j default) (omega arith) ∙ sym (get_or-take m items k default below)))
 
-  right_parts : (m n : ℕ) → length items ≡ m + n → HasItems plus times default items [] (range_with_len m n) (drop m items)
+  right_parts : (m n : ℕ) → length items ≡ m + n
+      → HasItems plus times default items [] (range_with_len m n) (drop m items)
   right_parts m n same =
       let count : length (drop m items) ≡ n = simp length-drop (omega arith) in
       subst (λ k. HasItems plus times default items [] (range_with_len m k) (drop m items)) count (forming.parts_have plus times default items m (drop m items) (omega arith) (λ k inside. sym (get_or-drop m items k default)))
@@ -66,7 +69,8 @@ module _ {A : Type 0} (plus times : A → A → A) (default : A) (items : List A
       let plan : Formed → Plan = λ sum. record { parts = m + n; steps = sum.steps; results = sum.places } in
       subst (λ plan. Forms plan values) (ap plan (summed_operands m n)) (subst (λ parts. Forms (over parts) values) same here)
 
-  pub product_forms : (m n : ℕ) → length items ≡ m + n → Forms (product_plan m n) (list_product plus times (take m items) (drop m items))
+  pub product_forms : (m n : ℕ) → length items ≡ m + n
+      → Forms (product_plan m n) (list_product plus times (take m items) (drop m items))
   unfolding product_plan
   product_forms m n same =
       let over : ℕ → Plan = λ parts. let table = product_table parts (range_with_len 0 m) (range_with_len m n) in record { parts = parts; steps = table.steps; results = get_or table.products 0 [] } in
@@ -81,7 +85,13 @@ module _ {A : Type 0} (plus times : A → A → A) (default : A) (items : List A
       subst (λ parts. Forms (over parts) values) same here
 
   -- so many parts from this one on, multiplied by the first of all
-  multiples_form : (steps : List PlanStep) (start : ℕ) (factor : A) (values : List A) → HasItem plus times default items steps 0 factor → HasItems plus times default items steps (range_with_len (1 + start) (length values)) values → let after = steps ++ map (λ i. step.Mul 0 (1 + i)) (range_with_len start (length values)) in GoesOn plus times default items steps after × HasItems plus times default items after (range_with_len (length items + length steps) (length values)) (map (times factor) values)
+  multiples_form : (steps : List PlanStep) (start : ℕ) (factor : A) (values : List A)
+      → HasItem plus times default items steps 0 factor
+      → HasItems plus times default items steps (range_with_len (1 + start) (length values)) values
+      → let after = steps ++ map (λ i. step.Mul 0 (1 + i))
+      (range_with_len start (length values)) in GoesOn plus times default items steps after
+      × HasItems plus times default items after (range_with_len (length items + length steps) (length values))
+      (map (times factor) values)
   multiples_form steps start factor [] hf hv = (subst (GoesOn plus times default items steps) (sym (append-nil steps)) (forming.stays plus times default items steps), tt)
   multiples_form steps start factor (value ∷ values) hf hv =
       let next = steps ++ step.Mul 0 (1 + start) ∷ [] in
@@ -100,12 +110,15 @@ module _ {A : Type 0} (plus times : A → A → A) (default : A) (items : List A
       )
 
 -- the product of a list of one item and a list
-product_of_one : {A : Type 0} (plus times : A → A → A) (x : A) (ys : List A) → map (times x) ys ≡ list_product plus times (x ∷ []) ys
+product_of_one : {A : Type 0} (plus times : A → A → A) (x : A) (ys : List A)
+    → map (times x) ys ≡ list_product plus times (x ∷ []) ys
 product_of_one plus times x [] = refl
 product_of_one plus times x (y ∷ ys) =
     ap (λ rest. times x y ∷ rest) (product_of_one plus times x ys ∙ sym (list_sum_none plus (list_product plus times (x ∷ []) ys)) ∙ sym (list_sum_none plus (list_sum plus (list_product plus times (x ∷ []) ys) [])))
 
-pub multiple_forms : {A : Type 0} (plus times : A → A → A) (default : A) (items : List A) (n : ℕ) → length items ≡ 1 + n → Forms plus times default items (multiple_plan n) (list_product plus times (take 1 items) (drop 1 items))
+pub multiple_forms : {A : Type 0} (plus times : A → A → A) (default : A) (items : List A) (n : ℕ)
+    → length items ≡ 1 + n
+    → Forms plus times default items (multiple_plan n) (list_product plus times (take 1 items) (drop 1 items))
 unfolding multiple_plan
 multiple_forms plus times default [] n same = absurd (omega arith)
 multiple_forms plus times default (factor ∷ values) n same =
@@ -124,13 +137,17 @@ multiple_forms plus times default (factor ∷ values) n same =
 
 -- With the default for a lone part, a list of parts has this value at the turn.
 module _ {A : Type 0} {Admits : A → Type 0} {plus times : A → A → A} (laws : IsSemiring Admits plus times) where
-  pub value_of_list_sum : (turn : ℕ) (xs ys : List A) (left right : A) → Each Admits xs → Each Admits ys → HasValue plus turn xs left → HasValue plus turn ys right → HasValue plus turn (list_sum plus xs ys) (plus left right)
+  pub value_of_list_sum : (turn : ℕ) (xs ys : List A) (left right : A) → Each Admits xs → Each Admits ys
+      → HasValue plus turn xs left → HasValue plus turn ys right
+      → HasValue plus turn (list_sum plus xs ys) (plus left right)
   value_of_list_sum turn [] ys left right hx hy vx vy = absurd vx
   value_of_list_sum turn (x ∷ xs) [] left right hx hy vx vy = absurd vy
   value_of_list_sum turn (x ∷ xs) (y ∷ ys) left right hx hy vx vy =
       value_of_sum laws turn x y xs ys hx.0 hy.0 hx.1 hy.1 ∙ ap (λ z. plus z (iterated plus turn y ys)) vx ∙ ap (plus left) vy
 
-  pub value_of_list_product : (turn : ℕ) (xs ys : List A) (left right : A) → Each Admits xs → Each Admits ys → HasValue plus turn xs left → HasValue plus turn ys right → HasValue plus turn (list_product plus times xs ys) (times left right)
+  pub value_of_list_product : (turn : ℕ) (xs ys : List A) (left right : A) → Each Admits xs → Each Admits ys
+      → HasValue plus turn xs left → HasValue plus turn ys right
+      → HasValue plus turn (list_product plus times xs ys) (times left right)
   value_of_list_product turn [] ys left right hx hy vx vy = absurd vx
   value_of_list_product turn (x ∷ xs) [] left right hx hy vx vy = absurd vy
   value_of_list_product turn (x ∷ xs) (y ∷ ys) left right hx hy vx vy =
@@ -147,21 +164,27 @@ module _ {A : Type 0} {Admits : A → Type 0} {plus times : A → A → A} (laws
   drop_each (suc m) (x ∷ xs) h = drop_each m xs h.1
 
   -- what the theorem of `carry_out` says of a plan that forms a sum
-  pub sum_carried : (default : A) (parts : List A) (m n turn : ℕ) (left right : A) → All Admits parts → length parts ≡ m + n → HasValue plus turn (take m parts) left → HasValue plus turn (drop m parts) right → HasValue plus turn (carried plus times default (sum_plan m n) parts) (plus left right)
+  pub sum_carried : (default : A) (parts : List A) (m n turn : ℕ) (left right : A) → All Admits parts
+      → length parts ≡ m + n → HasValue plus turn (take m parts) left → HasValue plus turn (drop m parts) right
+      → HasValue plus turn (carried plus times default (sum_plan m n) parts) (plus left right)
   sum_carried default parts m n turn left right admitted same vx vy =
       let each = each_from_all Admits parts admitted in
       let e = forms_carried plus times default parts (sum_plan m n) (list_sum plus (take m parts) (drop m parts)) (sum_forms plus times default parts m n same) in
       subst (λ xs. HasValue plus turn xs (plus left right)) (sym e) (value_of_list_sum turn (take m parts) (drop m parts) left right (take_each m parts each) (drop_each m parts each) vx vy)
 
   -- and of one that forms a product
-  pub product_carried : (default : A) (parts : List A) (m n turn : ℕ) (left right : A) → All Admits parts → length parts ≡ m + n → HasValue plus turn (take m parts) left → HasValue plus turn (drop m parts) right → HasValue plus turn (carried plus times default (product_plan m n) parts) (times left right)
+  pub product_carried : (default : A) (parts : List A) (m n turn : ℕ) (left right : A) → All Admits parts
+      → length parts ≡ m + n → HasValue plus turn (take m parts) left → HasValue plus turn (drop m parts) right
+      → HasValue plus turn (carried plus times default (product_plan m n) parts) (times left right)
   product_carried default parts m n turn left right admitted same vx vy =
       let each = each_from_all Admits parts admitted in
       let e = forms_carried plus times default parts (product_plan m n) (list_product plus times (take m parts) (drop m parts)) (product_forms plus times default parts m n same) in
       subst (λ xs. HasValue plus turn xs (times left right)) (sym e) (value_of_list_product turn (take m parts) (drop m parts) left right (take_each m parts each) (drop_each m parts each) vx vy)
 
   -- and of one that multiplies by a factor
-  pub multiple_carried : (default : A) (parts : List A) (n turn : ℕ) (left right : A) → All Admits parts → length parts ≡ 1 + n → HasValue plus turn (take 1 parts) left → HasValue plus turn (drop 1 parts) right → HasValue plus turn (carried plus times default (multiple_plan n) parts) (times left right)
+  pub multiple_carried : (default : A) (parts : List A) (n turn : ℕ) (left right : A) → All Admits parts
+      → length parts ≡ 1 + n → HasValue plus turn (take 1 parts) left → HasValue plus turn (drop 1 parts) right
+      → HasValue plus turn (carried plus times default (multiple_plan n) parts) (times left right)
   multiple_carried default parts n turn left right admitted same vx vy =
       let each = each_from_all Admits parts admitted in
       let e = forms_carried plus times default parts (multiple_plan n) (list_product plus times (take 1 parts) (drop 1 parts)) (multiple_forms plus times default parts n same) in
@@ -200,12 +223,14 @@ product_operands : (m n : ℕ) → (product_plan m n).parts ≡ m + n
 unfolding product_plan
 product_operands m n = refl
 
-length-list_product_of : (xs ys : List ℕ) → 1 ≤ length xs → 1 ≤ length ys → length (list_product ◌+◌ ◌+◌ xs ys) ≡ length xs + length ys - 1
+length-list_product_of : (xs ys : List ℕ) → 1 ≤ length xs → 1 ≤ length ys
+    → length (list_product ◌+◌ ◌+◌ xs ys) ≡ length xs + length ys - 1
 length-list_product_of [] ys some some' = absurd (omega arith)
 length-list_product_of (x ∷ xs) [] some some' = absurd (omega arith)
 length-list_product_of (x ∷ xs) (y ∷ ys) some some' = omega (arith, length-list_product ◌+◌ ◌+◌ x xs y ys)
 
-pub product_counts : (m n : ℕ) → 1 ≤ m → 1 ≤ n → ((product_plan m n).parts ≡ m + n) × (length (product_plan m n).results ≡ m + n - 1)
+pub product_counts : (m n : ℕ) → 1 ≤ m → 1 ≤ n → ((product_plan m n).parts ≡ m + n)
+    × (length (product_plan m n).results ≡ m + n - 1)
 product_counts m n some some' =
     let items = some_items (m + n) in
     let lefts = take m items in

@@ -16,13 +16,15 @@ pair_steps (left ∷ lefts) (right ∷ rights) = step.Add left right ∷ pair_st
 formed : List PlanStep → List ℕ → Formed
 formed steps places = record { steps = steps; places = places }
 
-summed_left : (parts : ℕ) (steps : List PlanStep) (places lefts : List ℕ) → summed parts (formed steps places) (length lefts) lefts [] [] ≡ formed steps (places ++ lefts)
+summed_left : (parts : ℕ) (steps : List PlanStep) (places lefts : List ℕ)
+    → summed parts (formed steps places) (length lefts) lefts [] [] ≡ formed steps (places ++ lefts)
 unfolding summed formed
 summed_left parts steps places [] = ap (formed steps) (sym (append-nil places))
 summed_left parts steps places (left ∷ lefts) =
     summed_left parts steps (places ++ left ∷ []) lefts ∙ ap (formed steps) (append_assoc places (left ∷ []) lefts)
 
-summed_right : (parts : ℕ) (steps : List PlanStep) (places rights : List ℕ) → summed parts (formed steps places) (length rights) [] rights [] ≡ formed steps (places ++ rights)
+summed_right : (parts : ℕ) (steps : List PlanStep) (places rights : List ℕ)
+    → summed parts (formed steps places) (length rights) [] rights [] ≡ formed steps (places ++ rights)
 unfolding summed formed
 summed_right parts steps places [] = ap (formed steps) (sym (append-nil places))
 summed_right parts steps places (right ∷ rights) =
@@ -33,7 +35,10 @@ result_places : ℕ → List ℕ → List ℕ → List ℕ
 result_places start lefts rights =
     range_with_len start (min (length lefts) (length rights)) ++ (drop (length rights) lefts ++ drop (length lefts) rights)
 
-summed_two : (parts : ℕ) (steps : List PlanStep) (places lefts rights : List ℕ) → summed parts (formed steps places) (max (length lefts) (length rights)) lefts rights [] ≡ formed (steps ++ pair_steps lefts rights) (places ++ result_places (parts + length steps) lefts rights)
+summed_two : (parts : ℕ) (steps : List PlanStep) (places lefts rights : List ℕ)
+    → summed parts (formed steps places) (max (length lefts)
+    (length rights)) lefts rights [] ≡ formed (steps ++ pair_steps lefts rights)
+    (places ++ result_places (parts + length steps) lefts rights)
 unfolding summed formed pair_steps result_places
 summed_two parts steps places [] [] = ap (λ s. formed s places) (sym (append-nil steps)) ∙ ap (formed (steps ++ [])) (sym (append-nil places))
 summed_two parts steps places [] (right ∷ rights) =
@@ -65,7 +70,9 @@ summed_two parts steps places (left ∷ lefts) (right ∷ rights) =
     ∙ ap (λ k. places ++ place ∷ (range_with_len k (min (length lefts) (length rights)) ++ further)) moved
     ∙ ap (λ k. places ++ (range_with_len place k ++ further)) pairs)
 
-pair_steps_of_ranges : (m start p q : ℕ) → pair_steps (range_with_len start p) (range_with_len (m + start) q) ≡ map (λ i. step.Add i (m + i)) (range_with_len start (min p q))
+pair_steps_of_ranges : (m start p q : ℕ)
+    → pair_steps (range_with_len start p) (range_with_len (m + start) q) ≡ map (λ i. step.Add i (m + i))
+    (range_with_len start (min p q))
 unfolding pair_steps
 pair_steps_of_ranges m start zero q = let none : 0 ≡ min 0 q = omega arith in ap (λ k. map (λ i. step.Add i (m + i)) (range_with_len start k)) none
 pair_steps_of_ranges m start (suc p) zero = let none : 0 ≡ min (suc p) 0 = omega arith in ap (λ k. map (λ i. step.Add i (m + i)) (range_with_len start k)) none
@@ -77,7 +84,9 @@ pair_steps_of_ranges m start (suc p) (suc q) =
     ∙ ap (λ k. map (λ i. step.Add i (m + i)) (range_with_len start k)) pairs
 
 -- What adding the places of two operands forms.
-pub summed_operands : (m n : ℕ) → summed (m + n) (record { steps = []; places = [] }) (max m n) (range_with_len 0 m) (range_with_len m n) [] ≡ record {
+pub summed_operands : (m n : ℕ)
+    → summed (m + n) (record { steps = []; places = [] }) (max m n) (range_with_len 0 m)
+    (range_with_len m n) [] ≡ record {
   steps = map (λ i. step.Add i (m + i)) (range_with_len 0 (min m n));
   places = range_with_len (m + n) (min m n) ++ (drop n (range_with_len 0 m) ++ drop m (range_with_len m n));
 }
