@@ -58,7 +58,8 @@ module _ {A : Type 0} {Admits : A → Type 0} {plus times : A → A → A} (laws
       → plus (plus a b) (plus c d) ≡ plus (plus a c) (plus b d)
   medial a b c d ha hb hc hd =
       laws.plus_assoc a b (plus c d) ha hb (laws.plus_closed c d hc hd)
-      ∙ ap (plus a) (sym (laws.plus_assoc b c d hb hc hd) ∙ ap (λ z. plus z d) (laws.plus_comm b c hb hc) ∙ laws.plus_assoc c b d hc hb hd)
+      ∙ ap (plus a) (sym (laws.plus_assoc b c d hb hc hd) ∙ ap (λ z. plus z d) (laws.plus_comm b c hb hc)
+      ∙ laws.plus_assoc c b d hc hb hd)
       ∙ sym (laws.plus_assoc a c (plus b d) ha hc (laws.plus_closed b d hb hd))
 
   -- (a + b) + c as (a + c) + b
@@ -85,7 +86,8 @@ module _ {A : Type 0} {Admits : A → Type 0} {plus times : A → A → A} (laws
   pub multiplied_out : (a b c d : A) → Admits a → Admits b → Admits c → Admits d
       → plus (times a c) (plus (plus (times a d) (times b c)) (times b d)) ≡ times (plus a b) (plus c d)
   multiplied_out a b c d ha hb hc hd =
-      regrouped (times a c) (times a d) (times b c) (times b d) (laws.times_closed a c ha hc) (laws.times_closed a d ha hd) (laws.times_closed b c hb hc) (laws.times_closed b d hb hd)
+      regrouped (times a c) (times a d) (times b c) (times b d) (laws.times_closed a c ha hc)
+      (laws.times_closed a d ha hd) (laws.times_closed b c hb hc) (laws.times_closed b d hb hd)
       ∙ sym (laws.distributes (plus a b) c d (laws.plus_closed a b ha hb) hc hd
       ∙ ap (λ z. plus z (times (plus a b) d)) (distributes_right a b c ha hb hc)
       ∙ ap (plus (plus (times a c) (times b c))) (distributes_right a b d ha hb hd))
@@ -103,20 +105,28 @@ module _ {A : Type 0} {Admits : A → Type 0} {plus times : A → A → A} (laws
   value_of_sum zero x y xs ys hx hy hxs hys = refl
   value_of_sum (suc turn) x y [] [] hx hy hxs hys = refl
   value_of_sum (suc turn) x y [] (y' ∷ ys) hx hy hxs hys =
-      ap (λ z. plus z (iterated plus turn y' ys)) (value_of_sum turn x y [] (y' ∷ ys) hx hy hxs hys ∙ ap (λ z. plus z (iterated plus turn y (y' ∷ ys))) (value_of_single turn x))
+      ap (λ z. plus z (iterated plus turn y' ys))
+      (value_of_sum turn x y [] (y' ∷ ys) hx hy hxs hys ∙ ap (λ z. plus z (iterated plus turn y (y' ∷ ys)))
+      (value_of_single turn x))
       ∙ laws.plus_assoc _ _ _ hx (value_closed turn y (y' ∷ ys) hy hys) (value_closed turn y' ys hys.0 hys.1)
   value_of_sum (suc turn) x y (x' ∷ xs) [] hx hy hxs hys =
-      ap (λ z. plus z (iterated plus turn x' xs)) (value_of_sum turn x y (x' ∷ xs) [] hx hy hxs hys ∙ ap (plus (iterated plus turn x (x' ∷ xs))) (value_of_single turn y))
+      ap (λ z. plus z (iterated plus turn x' xs))
+      (value_of_sum turn x y (x' ∷ xs) [] hx hy hxs hys ∙ ap (plus (iterated plus turn x (x' ∷ xs)))
+      (value_of_single turn y))
       ∙ swap_last _ _ _ (value_closed turn x (x' ∷ xs) hx hxs) hy (value_closed turn x' xs hxs.0 hxs.1)
   value_of_sum (suc turn) x y (x' ∷ xs) (y' ∷ ys) hx hy hxs hys =
-      ap (λ z. plus z (iterated plus turn (plus x' y') (list_sum plus xs ys))) (value_of_sum turn x y (x' ∷ xs) (y' ∷ ys) hx hy hxs hys)
-      ∙ ap (plus (plus (iterated plus turn x (x' ∷ xs)) (iterated plus turn y (y' ∷ ys)))) (value_of_sum turn x' y' xs ys hxs.0 hys.0 hxs.1 hys.1)
-      ∙ medial _ _ _ _ (value_closed turn x (x' ∷ xs) hx hxs) (value_closed turn y (y' ∷ ys) hy hys) (value_closed turn x' xs hxs.0 hxs.1) (value_closed turn y' ys hys.0 hys.1)
+      ap (λ z. plus z (iterated plus turn (plus x' y') (list_sum plus xs ys)))
+      (value_of_sum turn x y (x' ∷ xs) (y' ∷ ys) hx hy hxs hys)
+      ∙ ap (plus (plus (iterated plus turn x (x' ∷ xs)) (iterated plus turn y (y' ∷ ys))))
+      (value_of_sum turn x' y' xs ys hxs.0 hys.0 hxs.1 hys.1)
+      ∙ medial _ _ _ _ (value_closed turn x (x' ∷ xs) hx hxs) (value_closed turn y (y' ∷ ys) hy hys)
+      (value_closed turn x' xs hxs.0 hxs.1) (value_closed turn y' ys hys.0 hys.1)
 
   -- the parts of a product after the first
   abbrev pub product_rest : A → List A → A → List A → List A
   product_rest x xs y ys =
-      list_sum plus (list_sum plus (list_product plus times (x ∷ xs) ys) (list_product plus times xs (y ∷ ys))) (list_product plus times xs ys)
+      list_sum plus (list_sum plus (list_product plus times (x ∷ xs) ys) (list_product plus times xs (y ∷ ys)))
+      (list_product plus times xs ys)
 
   -- The value of a product is the product of the values: at the next turn it is (f + Df) · (g + Dg).
   pub value_of_product : (turn : ℕ) (x y : A) (xs ys : List A) → Admits x → Admits y → Each Admits xs → Each Admits ys
@@ -126,14 +136,20 @@ module _ {A : Type 0} {Admits : A → Type 0} {plus times : A → A → A} (laws
   value_of_product zero x y xs ys hx hy hxs hys = refl
   value_of_product (suc turn) x y [] [] hx hy hxs hys = refl
   value_of_product (suc turn) x y [] (y' ∷ ys) hx hy hxs hys =
-      ap (λ z. plus z (iterated plus turn (times x y') (product_rest x [] y' ys))) (value_of_product turn x y [] (y' ∷ ys) hx hy hxs hys)
-      ∙ ap (plus (times (iterated plus turn x []) (iterated plus turn y (y' ∷ ys)))) (value_of_product turn x y' [] ys hx hys.0 hxs hys.1)
-      ∙ sym (laws.distributes _ _ _ (value_closed turn x [] hx hxs) (value_closed turn y (y' ∷ ys) hy hys) (value_closed turn y' ys hys.0 hys.1))
+      ap (λ z. plus z (iterated plus turn (times x y') (product_rest x [] y' ys)))
+      (value_of_product turn x y [] (y' ∷ ys) hx hy hxs hys)
+      ∙ ap (plus (times (iterated plus turn x []) (iterated plus turn y (y' ∷ ys))))
+      (value_of_product turn x y' [] ys hx hys.0 hxs hys.1)
+      ∙ sym (laws.distributes _ _ _ (value_closed turn x [] hx hxs) (value_closed turn y (y' ∷ ys) hy hys)
+      (value_closed turn y' ys hys.0 hys.1))
       ∙ ap (λ z. times z (plus (iterated plus turn y (y' ∷ ys)) (iterated plus turn y' ys))) (value_of_single turn x)
   value_of_product (suc turn) x y (x' ∷ xs) [] hx hy hxs hys =
-      ap (λ z. plus z (iterated plus turn (times x' y) (product_rest x' xs y []))) (value_of_product turn x y (x' ∷ xs) [] hx hy hxs hys)
-      ∙ ap (plus (times (iterated plus turn x (x' ∷ xs)) (iterated plus turn y []))) (value_of_product turn x' y xs [] hxs.0 hy hxs.1 hys)
-      ∙ sym (distributes_right _ _ _ (value_closed turn x (x' ∷ xs) hx hxs) (value_closed turn x' xs hxs.0 hxs.1) (value_closed turn y [] hy hys))
+      ap (λ z. plus z (iterated plus turn (times x' y) (product_rest x' xs y [])))
+      (value_of_product turn x y (x' ∷ xs) [] hx hy hxs hys)
+      ∙ ap (plus (times (iterated plus turn x (x' ∷ xs)) (iterated plus turn y [])))
+      (value_of_product turn x' y xs [] hxs.0 hy hxs.1 hys)
+      ∙ sym (distributes_right _ _ _ (value_closed turn x (x' ∷ xs) hx hxs) (value_closed turn x' xs hxs.0 hxs.1)
+      (value_closed turn y [] hy hys))
       ∙ ap (times (plus (iterated plus turn x (x' ∷ xs)) (iterated plus turn x' xs))) (value_of_single turn y)
   value_of_product (suc turn) x y (x' ∷ xs) (y' ∷ ys) hx hy hxs hys =
       let hf : Each Admits (x ∷ x' ∷ xs) = (hx, hxs) in
@@ -141,14 +157,23 @@ module _ {A : Type 0} {Admits : A → Type 0} {plus times : A → A → A} (laws
       let first = list_product_closed (x ∷ x' ∷ xs) (y' ∷ ys) hf hys in
       let second = list_product_closed (x' ∷ xs) (y ∷ y' ∷ ys) hxs hg in
       let third = list_product_closed (x' ∷ xs) (y' ∷ ys) hxs hys in
-      ap (λ z. plus z (iterated plus turn (plus (plus (times x y') (times x' y)) (times x' y')) (list_sum plus (list_sum plus (product_rest x (x' ∷ xs) y' ys) (product_rest x' xs y (y' ∷ ys))) (product_rest x' xs y' ys)))) (value_of_product turn x y (x' ∷ xs) (y' ∷ ys) hx hy hxs hys)
+      ap (λ z. plus z (iterated plus turn (plus (plus (times x y') (times x' y)) (times x' y'))
+      (list_sum plus (list_sum plus (product_rest x (x' ∷ xs) y' ys) (product_rest x' xs y (y' ∷ ys)))
+      (product_rest x' xs y' ys)))) (value_of_product turn x y (x' ∷ xs) (y' ∷ ys) hx hy hxs hys)
       ∙ ap (plus (times (iterated plus turn x (x' ∷ xs)) (iterated plus turn y (y' ∷ ys)))) (
-      value_of_sum turn (plus (times x y') (times x' y)) (times x' y') _ _ (laws.plus_closed _ _ first.0 second.0) third.0 (list_sum_closed _ _ first.1 second.1) third.1
-      ∙ ap (λ z. plus z (iterated plus turn (times x' y') (product_rest x' xs y' ys))) (value_of_sum turn (times x y') (times x' y) _ _ first.0 second.0 first.1 second.1
-      ∙ ap (λ z. plus z (iterated plus turn (times x' y) (product_rest x' xs y (y' ∷ ys)))) (value_of_product turn x y' (x' ∷ xs) ys hx hys.0 hxs hys.1)
-      ∙ ap (plus (times (iterated plus turn x (x' ∷ xs)) (iterated plus turn y' ys))) (value_of_product turn x' y xs (y' ∷ ys) hxs.0 hy hxs.1 hys))
-      ∙ ap (plus (plus (times (iterated plus turn x (x' ∷ xs)) (iterated plus turn y' ys)) (times (iterated plus turn x' xs) (iterated plus turn y (y' ∷ ys))))) (value_of_product turn x' y' xs ys hxs.0 hys.0 hxs.1 hys.1))
-      ∙ multiplied_out _ _ _ _ (value_closed turn x (x' ∷ xs) hx hxs) (value_closed turn x' xs hxs.0 hxs.1) (value_closed turn y (y' ∷ ys) hy hys) (value_closed turn y' ys hys.0 hys.1)
+      value_of_sum turn (plus (times x y') (times x' y)) (times x' y') _ _
+      (laws.plus_closed _ _ first.0 second.0) third.0 (list_sum_closed _ _ first.1 second.1) third.1
+      ∙ ap (λ z. plus z (iterated plus turn (times x' y') (product_rest x' xs y' ys)))
+      (value_of_sum turn (times x y') (times x' y) _ _ first.0 second.0 first.1 second.1
+      ∙ ap (λ z. plus z (iterated plus turn (times x' y) (product_rest x' xs y (y' ∷ ys))))
+      (value_of_product turn x y' (x' ∷ xs) ys hx hys.0 hxs hys.1)
+      ∙ ap (plus (times (iterated plus turn x (x' ∷ xs)) (iterated plus turn y' ys)))
+      (value_of_product turn x' y xs (y' ∷ ys) hxs.0 hy hxs.1 hys))
+      ∙ ap (plus (plus (times (iterated plus turn x (x' ∷ xs)) (iterated plus turn y' ys))
+      (times (iterated plus turn x' xs) (iterated plus turn y (y' ∷ ys)))))
+      (value_of_product turn x' y' xs ys hxs.0 hys.0 hxs.1 hys.1))
+      ∙ multiplied_out _ _ _ _ (value_closed turn x (x' ∷ xs) hx hxs) (value_closed turn x' xs hxs.0 hxs.1)
+      (value_closed turn y (y' ∷ ys) hy hys) (value_closed turn y' ys hys.0 hys.1)
 
 pub length-list_sum : {A : Type 0} (plus : A → A → A) (xs ys : List A)
     → length (list_sum plus xs ys) ≡ max (length xs) (length ys)
@@ -159,7 +184,8 @@ length-list_sum plus (x ∷ xs) (y ∷ ys) = omega (arith, length-list_sum plus 
 module _ {A : Type 0} (plus times : A → A → A) where
   length-sum_of_three : (xs ys zs : List A)
       → length (list_sum plus (list_sum plus xs ys) zs) ≡ max (max (length xs) (length ys)) (length zs)
-  length-sum_of_three xs ys zs = omega (arith, length-list_sum plus (list_sum plus xs ys) zs, length-list_sum plus xs ys)
+  length-sum_of_three xs ys zs = omega
+      (arith, length-list_sum plus (list_sum plus xs ys) zs, length-list_sum plus xs ys)
 
   length-product_over_one : (x y : A) (ys : List A)
       → length (list_product plus times (x ∷ []) (y ∷ ys)) ≡ suc (length ys)
@@ -177,7 +203,14 @@ module _ {A : Type 0} (plus times : A → A → A) where
       let first = list_product plus times (x ∷ x' ∷ xs) (y' ∷ ys) in
       let second = list_product plus times (x' ∷ xs) (y ∷ y' ∷ ys) in
       let third = list_product plus times (x' ∷ xs) (y' ∷ ys) in
-      omega (arith, length-sum_of_three first second third, length-product_over x x' xs y' ys below, below y (y' ∷ ys), below y' ys)
+      omega (
+        arith,
+        length-sum_of_three first second third,
+        length-product_over x x' xs y' ys below,
+        below y
+            (y' ∷ ys),
+        below y' ys,
+      )
 
   pub length-list_product : (x : A) (xs : List A) (y : A) (ys : List A)
       → length (list_product plus times (x ∷ xs) (y ∷ ys)) ≡ length xs + suc (length ys)

@@ -13,7 +13,8 @@ use Rattle.rec_algebra.proofs.AlgebraLemmas.{Each, list_sum, list_product}
 pub names_one_more : (count : ℕ) (steps : List PlanStep) (next : PlanStep) → NamesEarlier count steps
     → IsStepBelow (count + length steps) next → NamesEarlier count (steps ++ next ∷ [])
 names_one_more count [] next earlier below = (subst (λ n. IsStepBelow n next) (omega arith) below, tt)
-names_one_more count (first ∷ rest) next earlier below = (earlier.0, names_one_more (suc count) rest next earlier.1 (subst (λ n. IsStepBelow n next) (omega arith) below))
+names_one_more count (first ∷ rest) next earlier below =
+    (earlier.0, names_one_more (suc count) rest next earlier.1 (subst (λ n. IsStepBelow n next) (omega arith) below))
 
 pub list_sum_none : {A : Type 0} (plus : A → A → A) (xs : List A) → list_sum plus xs [] ≡ xs
 list_sum_none plus [] = refl
@@ -24,7 +25,10 @@ empty_list [] h = refl
 empty_list (x ∷ xs) h = absurd (omega arith)
 
 module _ {A : Type 0} (plus times : A → A → A) (default : A) where
-  pub place_items_one_more : (items : List A) (steps : List PlanStep) (next : PlanStep) → place_items plus times default items (steps ++ next ∷ []) ≡ place_items plus times default items steps ++ step_item plus times default (place_items plus times default items steps) next ∷ []
+  pub place_items_one_more : (items : List A) (steps : List PlanStep) (next : PlanStep)
+      → place_items plus times default items
+      (steps ++ next ∷ []) ≡ place_items plus times default items steps ++ step_item plus times default
+      (place_items plus times default items steps) next ∷ []
   place_items_one_more items [] next = refl
   place_items_one_more items (first ∷ rest) next =
       place_items_one_more (items ++ step_item plus times default items first ∷ []) rest next
@@ -33,7 +37,8 @@ module _ {A : Type 0} (plus times : A → A → A) (default : A) where
       → length (place_items plus times default items steps) ≡ length items + length steps
   length-place_items items [] = omega arith
   length-place_items items (first ∷ rest) =
-      length-place_items (items ++ step_item plus times default items first ∷ []) rest ∙ simp length-append (omega arith)
+      length-place_items (items ++ step_item plus times default items first ∷ []) rest ∙ simp length-append
+      (omega arith)
 
 -- the sum of two items, either of which may be missing
 abbrev pub item_sum : {A : Type 0} → (A → A → A) → Option A → Option A → Option A
@@ -52,14 +57,18 @@ list_sum_by_parts : {A : Type 0} (plus : A → A → A) (items xs ys zs : List A
     (drop 1 zs) ≡ items ++ list_sum plus (list_sum plus xs ys) zs
 list_sum_by_parts plus items [] [] [] = refl
 list_sum_by_parts plus items [] [] (z ∷ zs) = append_assoc items (z ∷ []) zs
-list_sum_by_parts plus items [] (y ∷ ys) [] = append_assoc items (y ∷ []) (list_sum plus ys []) ∙ ap (λ rest. items ++ y ∷ rest) (list_sum_none plus ys)
+list_sum_by_parts plus items [] (y ∷ ys) [] = append_assoc items (y ∷ []) (list_sum plus ys []) ∙ ap
+    (λ rest. items ++ y ∷ rest) (list_sum_none plus ys)
 list_sum_by_parts plus items [] (y ∷ ys) (z ∷ zs) = append_assoc items (plus y z ∷ []) (list_sum plus ys zs)
 list_sum_by_parts plus items (x ∷ xs) [] [] =
-    append_assoc items (x ∷ []) (list_sum plus (list_sum plus xs []) []) ∙ ap (λ rest. items ++ x ∷ rest) (list_sum_none plus (list_sum plus xs []) ∙ list_sum_none plus xs)
+    append_assoc items (x ∷ []) (list_sum plus (list_sum plus xs []) []) ∙ ap (λ rest. items ++ x ∷ rest)
+    (list_sum_none plus (list_sum plus xs []) ∙ list_sum_none plus xs)
 list_sum_by_parts plus items (x ∷ xs) [] (z ∷ zs) =
-    append_assoc items (plus x z ∷ []) (list_sum plus (list_sum plus xs []) zs) ∙ ap (λ rest. items ++ plus x z ∷ list_sum plus rest zs) (list_sum_none plus xs)
+    append_assoc items (plus x z ∷ []) (list_sum plus (list_sum plus xs []) zs) ∙ ap
+    (λ rest. items ++ plus x z ∷ list_sum plus rest zs) (list_sum_none plus xs)
 list_sum_by_parts plus items (x ∷ xs) (y ∷ ys) [] =
-    append_assoc items (plus x y ∷ []) (list_sum plus (list_sum plus xs ys) []) ∙ ap (λ rest. items ++ plus x y ∷ rest) (list_sum_none plus (list_sum plus xs ys))
+    append_assoc items (plus x y ∷ []) (list_sum plus (list_sum plus xs ys) []) ∙ ap
+    (λ rest. items ++ plus x y ∷ rest) (list_sum_none plus (list_sum plus xs ys))
 list_sum_by_parts plus items (x ∷ xs) (y ∷ ys) (z ∷ zs) =
     append_assoc items (plus (plus x y) z ∷ []) (list_sum plus (list_sum plus xs ys) zs)
 
@@ -129,8 +138,10 @@ module _ {A : Type 0} (plus times : A → A → A) (default : A) (items : List A
   one_more_has steps next =
       let all = place_items plus times default items steps in (
         omega (arith, length-append steps (next ∷ [])),
-        ap (λ (l : List A). get_or l (length items + length steps) default) (place_items_one_more plus times default items steps next)
-            ∙ ap (λ n. get_or (all ++ step_item plus times default all next ∷ []) n default) (sym (length-place_items plus times default items steps))
+        ap (λ (l : List A). get_or l (length items + length steps) default)
+            (place_items_one_more plus times default items steps next)
+            ∙ ap (λ n. get_or (all ++ step_item plus times default all next ∷ []) n default)
+            (sym (length-place_items plus times default items steps))
             ∙ get_or-append_seam all (step_item plus times default all next) [] default,
       )
 
@@ -146,7 +157,9 @@ module _ {A : Type 0} (plus times : A → A → A) (default : A) (items : List A
       × HasItem (steps ++ step.Add left right ∷ []) (length items + length steps) (plus x y)
   added steps left right x y hx hy = (
     one_more_on steps (step.Add left right) (hx.0, hy.0),
-    subst (HasItem (steps ++ step.Add left right ∷ []) (length items + length steps)) (ap (plus (get_or (place_items plus times default items steps) left default)) hy.1 ∙ ap (λ z. plus z y) hx.1) (one_more_has steps (step.Add left right)),
+    subst (HasItem (steps ++ step.Add left right ∷ []) (length items + length steps))
+        (ap (plus (get_or (place_items plus times default items steps) left default)) hy.1 ∙ ap (λ z. plus z y) hx.1)
+        (one_more_has steps (step.Add left right)),
   )
 
   pub times_added : (steps : List PlanStep) (left right : ℕ) (x y : A) → HasItem steps left x → HasItem steps right y
@@ -154,7 +167,9 @@ module _ {A : Type 0} (plus times : A → A → A) (default : A) (items : List A
       × HasItem (steps ++ step.Mul left right ∷ []) (length items + length steps) (times x y)
   times_added steps left right x y hx hy = (
     one_more_on steps (step.Mul left right) (hx.0, hy.0),
-    subst (HasItem (steps ++ step.Mul left right ∷ []) (length items + length steps)) (ap (times (get_or (place_items plus times default items steps) left default)) hy.1 ∙ ap (λ z. times z y) hx.1) (one_more_has steps (step.Mul left right)),
+    subst (HasItem (steps ++ step.Mul left right ∷ []) (length items + length steps))
+        (ap (times (get_or (place_items plus times default items steps) left default)) hy.1 ∙ ap
+        (λ z. times z y) hx.1) (one_more_has steps (step.Mul left right)),
   )
 
   pub joined_has : (steps : List PlanStep) (left right : Option ℕ) (x y : Option A) → MayHaveItem steps left x
@@ -225,13 +240,22 @@ module _ {A : Type 0} (plus times : A → A → A) (default : A) (items : List A
   unfolding summed
   summed_has zero steps places values first second third xs ys zs h hx hy hz few few' few'' = (
     stays steps,
-    rw (none_has steps first xs hx few, none_has steps second ys hy few', none_has steps third zs hz few'') (rw append-nil h),
+    rw (none_has steps first xs hx few, none_has steps second ys hy few', none_has steps third zs hz few'')
+        (rw append-nil h),
   )
   summed_has (suc count) steps places values first second third xs ys zs h hx hy hz few few' few'' =
       let sum = joined_three (length items) steps (slice_get first 0) (slice_get second 0) (slice_get third 0) in
-      let one = joined_three_has steps (slice_get first 0) (slice_get second 0) (slice_get third 0) (slice_get xs 0) (slice_get ys 0) (slice_get zs 0) (first_has steps first xs hx) (first_has steps second ys hy) (first_has steps third zs hz) in
+      let one = joined_three_has steps (slice_get first 0) (slice_get second 0) (slice_get third 0) (slice_get xs 0)
+      (slice_get ys 0) (slice_get zs 0) (first_has steps first xs hx) (first_has steps second ys hy)
+      (first_has steps third zs hz) in
       let item = item_sum plus (item_sum plus (slice_get xs 0) (slice_get ys 0)) (slice_get zs 0) in
-      let more = summed_has count sum.steps (with_place places sum.place) (with_item values item) (drop 1 first) (drop 1 second) (drop 1 third) (drop 1 xs) (drop 1 ys) (drop 1 zs) (with_place_has sum.steps places values sum.place item (items_kept one.0 places values h) one.1) (items_kept one.0 (drop 1 first) (drop 1 xs) (rest_has steps first xs hx)) (items_kept one.0 (drop 1 second) (drop 1 ys) (rest_has steps second ys hy)) (items_kept one.0 (drop 1 third) (drop 1 zs) (rest_has steps third zs hz)) (simp length-drop (omega arith)) (simp length-drop (omega arith)) (simp length-drop (omega arith)) in
+      let more = summed_has count sum.steps (with_place places sum.place) (with_item values item) (drop 1 first)
+      (drop 1 second) (drop 1 third) (drop 1 xs) (drop 1 ys) (drop 1 zs)
+      (with_place_has sum.steps places values sum.place item (items_kept one.0 places values h) one.1)
+      (items_kept one.0 (drop 1 first) (drop 1 xs) (rest_has steps first xs hx))
+      (items_kept one.0 (drop 1 second) (drop 1 ys) (rest_has steps second ys hy))
+      (items_kept one.0 (drop 1 third) (drop 1 zs) (rest_has steps third zs hz)) (simp length-drop (omega arith))
+      (simp length-drop (omega arith)) (simp length-drop (omega arith)) in
       (then_on one.0 more.0, rw (list_sum_by_parts plus values xs ys zs) at more.1)
 
   pub multiplied_has : (steps : List PlanStep) (left right : ℕ) (x y : A) (first second third : List ℕ)
@@ -243,7 +267,10 @@ module _ {A : Type 0} (plus times : A → A → A) (default : A) (items : List A
   multiplied_has steps left right x y first second third xs ys zs hl hr hx hy hz =
       let start = steps ++ step.Mul left right ∷ [] in
       let one = times_added steps left right x y hl hr in
-      let more = summed_has (max (max (length first) (length second)) (length third)) start ((length items + length steps) ∷ []) (times x y ∷ []) first second third xs ys zs (one.1, tt) (items_kept one.0 first xs hx) (items_kept one.0 second ys hy) (items_kept one.0 third zs hz) (omega arith) (omega arith) (omega arith) in
+      let more = summed_has (max (max (length first) (length second)) (length third)) start
+      ((length items + length steps) ∷ []) (times x y ∷ []) first second third xs ys zs (one.1, tt)
+      (items_kept one.0 first xs hx) (items_kept one.0 second ys hy) (items_kept one.0 third zs hz) (omega arith)
+      (omega arith) (omega arith) in
       (then_on one.0 more.0, more.1)
 
   -- The row has the products of one list with each suffix of a list.
@@ -285,7 +312,12 @@ module _ {A : Type 0} (plus times : A → A → A) (default : A) (items : List A
   product_row_has steps left x xs (right ∷ rights) (y ∷ ys) below hl hr hb =
       let row = product_row (length items) steps left rights (drop 1 below) in
       let one = product_row_has steps left x xs rights ys (drop 1 below) hl hr.1 hb.1 in
-      let more = multiplied_has row.steps left right x y (get_or row.products 0 []) (get_or below 0 []) (get_or below 1 []) (list_product plus times (x ∷ xs) ys) (list_product plus times xs (y ∷ ys)) (list_product plus times xs ys) (one.0.keeps left x hl) (one.0.keeps right y hr.0) (row_first row.steps row.products (x ∷ xs) ys one.1) (items_kept one.0 (get_or below 0 []) (list_product plus times xs (y ∷ ys)) hb.0) (items_kept one.0 (get_or below 1 []) (list_product plus times xs ys) (row_second steps below xs ys hb.1)) in
+      let more = multiplied_has row.steps left right x y (get_or row.products 0 []) (get_or below 0 [])
+      (get_or below 1 []) (list_product plus times (x ∷ xs) ys) (list_product plus times xs (y ∷ ys))
+      (list_product plus times xs ys) (one.0.keeps left x hl) (one.0.keeps right y hr.0)
+      (row_first row.steps row.products (x ∷ xs) ys one.1)
+      (items_kept one.0 (get_or below 0 []) (list_product plus times xs (y ∷ ys)) hb.0)
+      (items_kept one.0 (get_or below 1 []) (list_product plus times xs ys) (row_second steps below xs ys hb.1)) in
       (then_on one.0 more.0, (more.1, row_kept more.0 row.products (x ∷ xs) ys one.1))
 
   pub product_table_has : (lefts : List ℕ) (xs : List A) (rights : List ℕ) (ys : List A) → HasItems [] lefts xs
@@ -298,7 +330,8 @@ module _ {A : Type 0} (plus times : A → A → A) (default : A) (items : List A
   product_table_has (left ∷ lefts) (x ∷ xs) rights ys hl hr =
       let table = product_table (length items) lefts rights in
       let one = product_table_has lefts xs rights ys hl.1 hr in
-      let more = product_row_has table.steps left x xs rights ys table.products (one.0.keeps left x hl.0) (items_kept one.0 rights ys hr) one.1 in
+      let more = product_row_has table.steps left x xs rights ys table.products (one.0.keeps left x hl.0)
+      (items_kept one.0 rights ys hr) one.1 in
       (then_on one.0 more.0, more.1)
 
   -- what the places have, read off
@@ -324,5 +357,6 @@ module _ {A : Type 0} (plus times : A → A → A) (default : A) (items : List A
   parts_have start [] inside same = tt
   parts_have start (value ∷ values) inside same = (
     (omega arith, ap (λ k. get_or items k default) (omega arith) ∙ same 0 (omega arith)),
-    parts_have (start + 1) values (omega arith) (λ k h. ap (λ j. get_or items j default) (omega arith) ∙ same (suc k) (omega arith)),
+    parts_have (start + 1) values (omega arith)
+        (λ k h. ap (λ j. get_or items j default) (omega arith) ∙ same (suc k) (omega arith)),
   )

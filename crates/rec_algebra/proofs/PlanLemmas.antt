@@ -35,7 +35,9 @@ module _ {A : Type 0} (plus times : A → A → A) (default : A) (items : List A
   pub forms_plan : (plan : Plan) (values : List A) → Forms plan values → IsPlan plan
   forms_plan plan values forms = (
     subst (λ n. NamesEarlier n plan.steps) forms.parts (forms.goes.earlier tt),
-    subst (λ n. All (λ place. place < n + length plan.steps) plan.results) forms.parts (all_from_each (λ place. place < length items + length plan.steps) plan.results (forming.each_inside plus times default items plan.steps plan.results values forms.has)),
+    subst (λ n. All (λ place. place < n + length plan.steps) plan.results) forms.parts
+        (all_from_each (λ place. place < length items + length plan.steps) plan.results
+        (forming.each_inside plus times default items plan.steps plan.results values forms.has)),
   )
 
   pub forms_carried : (plan : Plan) (values : List A) → Forms plan values
@@ -46,41 +48,54 @@ module _ {A : Type 0} (plus times : A → A → A) (default : A) (items : List A
       → HasItems plus times default items [] (range_with_len 0 m) (take m items)
   left_parts m n same =
       let count : length (take m items) ≡ m = simp length-take (omega arith) in
-      subst (λ k. HasItems plus times default items [] (range_with_len 0 k) (take m items)) count (forming.parts_have plus times default items 0 (take m items) (omega arith) (λ k inside. let below : k < m = omega arith in ap (λ j. get_or items j default) (omega arith) ∙ sym (get_or-take m items k default below)))
+      subst (λ k. HasItems plus times default items [] (range_with_len 0 k) (take m items)) count
+      (forming.parts_have plus times default items 0 (take m items) (omega arith)
+      (λ k inside. let below : k < m = omega arith in ap (λ j. get_or items j default) (omega arith) ∙ sym
+      (get_or-take m items k default below)))
 
   right_parts : (m n : ℕ) → length items ≡ m + n
       → HasItems plus times default items [] (range_with_len m n) (drop m items)
   right_parts m n same =
       let count : length (drop m items) ≡ n = simp length-drop (omega arith) in
-      subst (λ k. HasItems plus times default items [] (range_with_len m k) (drop m items)) count (forming.parts_have plus times default items m (drop m items) (omega arith) (λ k inside. sym (get_or-drop m items k default)))
+      subst (λ k. HasItems plus times default items [] (range_with_len m k) (drop m items)) count
+      (forming.parts_have plus times default items m (drop m items) (omega arith)
+      (λ k inside. sym (get_or-drop m items k default)))
 
   pub sum_forms : (m n : ℕ) → length items ≡ m + n → Forms (sum_plan m n) (list_sum plus (take m items) (drop m items))
   unfolding sum_plan
   sum_forms m n same =
       let none : Formed = record { steps = []; places = [] } in
-      let over : ℕ → Plan = λ parts. let sum = summed parts none (max m n) (range_with_len 0 m) (range_with_len m n) [] in record { parts = parts; steps = sum.steps; results = sum.places } in
+      let over : ℕ → Plan = λ parts. let sum = summed parts none (max m n) (range_with_len 0 m)
+      (range_with_len m n) [] in record { parts = parts; steps = sum.steps; results = sum.places } in
       let values = list_sum plus (take m items) (drop m items) in
-      let sum = forming.summed_has plus times default items (max m n) [] [] [] (range_with_len 0 m) (range_with_len m n) [] (take m items) (drop m items) [] tt (left_parts m n same) (right_parts m n same) tt (simp length-range_with_len (omega arith)) (simp length-range_with_len (omega arith)) (omega arith) in
+      let sum = forming.summed_has plus times default items (max m n) [] [] [] (range_with_len 0 m)
+      (range_with_len m n) [] (take m items) (drop m items) [] tt (left_parts m n same) (right_parts m n same) tt
+      (simp length-range_with_len (omega arith)) (simp length-range_with_len (omega arith)) (omega arith) in
       let here : Forms (over (length items)) values = record {
         parts = refl;
         goes = sum.0;
-        has = subst (HasItems plus times default items (over (length items)).steps (over (length items)).results) (list_sum_none plus values) sum.1;
+        has = subst (HasItems plus times default items (over (length items)).steps (over (length items)).results)
+            (list_sum_none plus values) sum.1;
       } in
       let plan : Formed → Plan = λ sum. record { parts = m + n; steps = sum.steps; results = sum.places } in
-      subst (λ plan. Forms plan values) (ap plan (summed_operands m n)) (subst (λ parts. Forms (over parts) values) same here)
+      subst (λ plan. Forms plan values) (ap plan (summed_operands m n))
+      (subst (λ parts. Forms (over parts) values) same here)
 
   pub product_forms : (m n : ℕ) → length items ≡ m + n
       → Forms (product_plan m n) (list_product plus times (take m items) (drop m items))
   unfolding product_plan
   product_forms m n same =
-      let over : ℕ → Plan = λ parts. let table = product_table parts (range_with_len 0 m) (range_with_len m n) in record { parts = parts; steps = table.steps; results = get_or table.products 0 [] } in
+      let over : ℕ → Plan = λ parts. let table = product_table parts (range_with_len 0 m)
+      (range_with_len m n) in record { parts = parts; steps = table.steps; results = get_or table.products 0 [] } in
       let values = list_product plus times (take m items) (drop m items) in
       let table = product_table (length items) (range_with_len 0 m) (range_with_len m n) in
-      let product = forming.product_table_has plus times default items (range_with_len 0 m) (take m items) (range_with_len m n) (drop m items) (left_parts m n same) (right_parts m n same) in
+      let product = forming.product_table_has plus times default items (range_with_len 0 m) (take m items)
+      (range_with_len m n) (drop m items) (left_parts m n same) (right_parts m n same) in
       let here : Forms (over (length items)) values = record {
         parts = refl;
         goes = product.0;
-        has = forming.row_first plus times default items table.steps table.products (take m items) (drop m items) product.1;
+        has = forming.row_first plus times default items table.steps table.products (take m items)
+            (drop m items) product.1;
       } in
       subst (λ parts. Forms (over parts) values) same here
 
@@ -92,20 +107,37 @@ module _ {A : Type 0} (plus times : A → A → A) (default : A) (items : List A
       (range_with_len start (length values)) in GoesOn plus times default items steps after
       × HasItems plus times default items after (range_with_len (length items + length steps) (length values))
       (map (times factor) values)
-  multiples_form steps start factor [] hf hv = (subst (GoesOn plus times default items steps) (sym (append-nil steps)) (forming.stays plus times default items steps), tt)
+  multiples_form steps start factor [] hf hv = (
+    subst (GoesOn plus times default items steps) (sym (append-nil steps))
+        (forming.stays plus times default items steps),
+    tt,
+  )
   multiples_form steps start factor (value ∷ values) hf hv =
       let next = steps ++ step.Mul 0 (1 + start) ∷ [] in
       let one = forming.times_added plus times default items steps 0 (1 + start) factor value hf hv.0 in
       let moved : (1 + start) + 1 ≡ 1 + (start + 1) = omega arith in
-      let rest : HasItems plus times default items steps (range_with_len (1 + (start + 1)) (length values)) values = subst (λ k. HasItems plus times default items steps (range_with_len k (length values)) values) moved hv.1 in
-      let more = multiples_form next (start + 1) factor values (one.0.keeps 0 factor hf) (forming.items_kept plus times default items one.0 (range_with_len (1 + (start + 1)) (length values)) values rest) in
-      let joined : next ++ map (λ i. step.Mul 0 (1 + i)) (range_with_len (start + 1) (length values)) ≡ steps ++ map (λ i. step.Mul 0 (1 + i)) (range_with_len start (length (value ∷ values))) = append_assoc steps (step.Mul 0 (1 + start) ∷ []) (map (λ i. step.Mul 0 (1 + i)) (range_with_len (start + 1) (length values))) in
-      let place : length items + length next ≡ (length items + length steps) + 1 = omega (arith, length-append steps (step.Mul 0 (1 + start) ∷ [])) in
-      let goes = subst (GoesOn plus times default items steps) joined (forming.then_on plus times default items one.0 more.0) in (
+      let rest : HasItems plus times default items steps
+      (range_with_len (1 + (start + 1)) (length values)) values = subst
+      (λ k. HasItems plus times default items steps (range_with_len k (length values)) values) moved hv.1 in
+      let more = multiples_form next (start + 1) factor values (one.0.keeps 0 factor hf)
+      (forming.items_kept plus times default items one.0
+      (range_with_len (1 + (start + 1)) (length values)) values rest) in
+      let joined : next ++ map (λ i. step.Mul 0 (1 + i)) (range_with_len (start + 1) (length values)) ≡ steps ++ map
+      (λ i. step.Mul 0 (1 + i)) (range_with_len start (length (value ∷ values))) = append_assoc steps
+      (step.Mul 0 (1 + start) ∷ []) (map (λ i. step.Mul 0 (1 + i)) (range_with_len (start + 1) (length values))) in
+      let place : length items + length next ≡ (length items + length steps) + 1 = omega
+      (arith, length-append steps (step.Mul 0 (1 + start) ∷ [])) in
+      let goes = subst (GoesOn plus times default items steps) joined
+      (forming.then_on plus times default items one.0 more.0) in (
         goes,
         (
-          subst (λ after. HasItem plus times default items after (length items + length steps) (times factor value)) joined (more.0.keeps (length items + length steps) (times factor value) one.1),
-          subst (λ k. HasItems plus times default items (steps ++ map (λ i. step.Mul 0 (1 + i)) (range_with_len start (length (value ∷ values)))) (range_with_len k (length values)) (map (times factor) values)) place (subst (λ after. HasItems plus times default items after (range_with_len (length items + length next) (length values)) (map (times factor) values)) joined more.1),
+          subst (λ after. HasItem plus times default items after (length items + length steps)
+              (times factor value)) joined (more.0.keeps (length items + length steps) (times factor value) one.1),
+          subst (λ k. HasItems plus times default items
+              (steps ++ map (λ i. step.Mul 0 (1 + i)) (range_with_len start (length (value ∷ values))))
+              (range_with_len k (length values)) (map (times factor) values)) place
+              (subst (λ after. HasItems plus times default items after
+              (range_with_len (length items + length next) (length values)) (map (times factor) values)) joined more.1),
         ),
       )
 
@@ -114,7 +146,9 @@ product_of_one : {A : Type 0} (plus times : A → A → A) (x : A) (ys : List A)
     → map (times x) ys ≡ list_product plus times (x ∷ []) ys
 product_of_one plus times x [] = refl
 product_of_one plus times x (y ∷ ys) =
-    ap (λ rest. times x y ∷ rest) (product_of_one plus times x ys ∙ sym (list_sum_none plus (list_product plus times (x ∷ []) ys)) ∙ sym (list_sum_none plus (list_sum plus (list_product plus times (x ∷ []) ys) [])))
+    ap (λ rest. times x y ∷ rest)
+    (product_of_one plus times x ys ∙ sym (list_sum_none plus (list_product plus times (x ∷ []) ys)) ∙ sym
+    (list_sum_none plus (list_sum plus (list_product plus times (x ∷ []) ys) [])))
 
 pub multiple_forms : {A : Type 0} (plus times : A → A → A) (default : A) (items : List A) (n : ℕ)
     → length items ≡ 1 + n
@@ -127,13 +161,28 @@ multiple_forms plus times default (factor ∷ values) n same =
     let first : HasItem plus times default items [] 0 factor = (omega arith, refl) in
     let rest = forming.parts_have plus times default items 1 values (omega arith) (λ k inside. rw one-add refl) in
     let made = multiples_form plus times default items [] 0 factor values first rest in
-    let over : ℕ → Plan = λ parts. record { parts = parts; steps = map (λ i. step.Mul 0 (1 + i)) (range_with_len 0 (length values)); results = range_with_len parts (length values) } in
-    let here : (parts : ℕ) → length items + 0 ≡ parts → Forms plus times default items (over parts) (list_product plus times (factor ∷ []) values) = λ parts e. record {
+    let over : ℕ → Plan = λ parts. record {
+      parts = parts;
+      steps = map (λ i. step.Mul 0 (1 + i))
+          (range_with_len 0 (length values));
+      results = range_with_len parts (length values);
+    } in
+    let here : (parts : ℕ) → length items + 0 ≡ parts → Forms plus times default items (over parts)
+    (list_product plus times (factor ∷ []) values) = λ parts e. record {
       parts = omega arith;
       goes = made.0;
-      has = subst (HasItems plus times default items (over parts).steps (range_with_len parts (length values))) (product_of_one plus times factor values) (subst (λ k. HasItems plus times default items (over parts).steps (range_with_len k (length values)) (map (times factor) values)) e made.1);
+      has = subst (HasItems plus times default items (over parts).steps (range_with_len parts (length values)))
+          (product_of_one plus times factor values)
+          (subst (λ k. HasItems plus times default items (over parts).steps (range_with_len k (length values))
+          (map (times factor) values)) e made.1);
     } in
-    subst (λ k. Forms plus times default items (record { parts = 1 + k; steps = map (λ i. step.Mul 0 (1 + i)) (range_with_len 0 k); results = range_with_len (1 + k) k }) (list_product plus times (factor ∷ []) values)) count (here (1 + length values) (omega arith))
+    subst (λ k. Forms plus times default items
+    (record {
+      parts = 1 + k;
+      steps = map (λ i. step.Mul 0 (1 + i)) (range_with_len 0 k);
+      results = range_with_len
+          (1 + k) k;
+    }) (list_product plus times (factor ∷ []) values)) count (here (1 + length values) (omega arith))
 
 -- With the default for a lone part, a list of parts has this value at the turn.
 module _ {A : Type 0} {Admits : A → Type 0} {plus times : A → A → A} (laws : IsSemiring Admits plus times) where
@@ -143,7 +192,8 @@ module _ {A : Type 0} {Admits : A → Type 0} {plus times : A → A → A} (laws
   value_of_list_sum turn [] ys left right hx hy vx vy = absurd vx
   value_of_list_sum turn (x ∷ xs) [] left right hx hy vx vy = absurd vy
   value_of_list_sum turn (x ∷ xs) (y ∷ ys) left right hx hy vx vy =
-      value_of_sum laws turn x y xs ys hx.0 hy.0 hx.1 hy.1 ∙ ap (λ z. plus z (iterated plus turn y ys)) vx ∙ ap (plus left) vy
+      value_of_sum laws turn x y xs ys hx.0 hy.0 hx.1 hy.1 ∙ ap (λ z. plus z (iterated plus turn y ys)) vx ∙ ap
+      (plus left) vy
 
   pub value_of_list_product : (turn : ℕ) (xs ys : List A) (left right : A) → Each Admits xs → Each Admits ys
       → HasValue plus turn xs left → HasValue plus turn ys right
@@ -151,7 +201,8 @@ module _ {A : Type 0} {Admits : A → Type 0} {plus times : A → A → A} (laws
   value_of_list_product turn [] ys left right hx hy vx vy = absurd vx
   value_of_list_product turn (x ∷ xs) [] left right hx hy vx vy = absurd vy
   value_of_list_product turn (x ∷ xs) (y ∷ ys) left right hx hy vx vy =
-      value_of_product laws turn x y xs ys hx.0 hy.0 hx.1 hy.1 ∙ ap (λ z. times z (iterated plus turn y ys)) vx ∙ ap (times left) vy
+      value_of_product laws turn x y xs ys hx.0 hy.0 hx.1 hy.1 ∙ ap (λ z. times z (iterated plus turn y ys)) vx ∙ ap
+      (times left) vy
 
   pub take_each : (m : ℕ) (xs : List A) → Each Admits xs → Each Admits (take m xs)
   take_each zero xs h = tt
@@ -169,8 +220,11 @@ module _ {A : Type 0} {Admits : A → Type 0} {plus times : A → A → A} (laws
       → HasValue plus turn (carried plus times default (sum_plan m n) parts) (plus left right)
   sum_carried default parts m n turn left right admitted same vx vy =
       let each = each_from_all Admits parts admitted in
-      let e = forms_carried plus times default parts (sum_plan m n) (list_sum plus (take m parts) (drop m parts)) (sum_forms plus times default parts m n same) in
-      subst (λ xs. HasValue plus turn xs (plus left right)) (sym e) (value_of_list_sum turn (take m parts) (drop m parts) left right (take_each m parts each) (drop_each m parts each) vx vy)
+      let e = forms_carried plus times default parts (sum_plan m n) (list_sum plus (take m parts) (drop m parts))
+      (sum_forms plus times default parts m n same) in
+      subst (λ xs. HasValue plus turn xs (plus left right)) (sym e)
+      (value_of_list_sum turn (take m parts) (drop m parts) left right (take_each m parts each)
+      (drop_each m parts each) vx vy)
 
   -- and of one that forms a product
   pub product_carried : (default : A) (parts : List A) (m n turn : ℕ) (left right : A) → All Admits parts
@@ -178,8 +232,11 @@ module _ {A : Type 0} {Admits : A → Type 0} {plus times : A → A → A} (laws
       → HasValue plus turn (carried plus times default (product_plan m n) parts) (times left right)
   product_carried default parts m n turn left right admitted same vx vy =
       let each = each_from_all Admits parts admitted in
-      let e = forms_carried plus times default parts (product_plan m n) (list_product plus times (take m parts) (drop m parts)) (product_forms plus times default parts m n same) in
-      subst (λ xs. HasValue plus turn xs (times left right)) (sym e) (value_of_list_product turn (take m parts) (drop m parts) left right (take_each m parts each) (drop_each m parts each) vx vy)
+      let e = forms_carried plus times default parts (product_plan m n)
+      (list_product plus times (take m parts) (drop m parts)) (product_forms plus times default parts m n same) in
+      subst (λ xs. HasValue plus turn xs (times left right)) (sym e)
+      (value_of_list_product turn (take m parts) (drop m parts) left right (take_each m parts each)
+      (drop_each m parts each) vx vy)
 
   -- and of one that multiplies by a factor
   pub multiple_carried : (default : A) (parts : List A) (n turn : ℕ) (left right : A) → All Admits parts
@@ -187,8 +244,11 @@ module _ {A : Type 0} {Admits : A → Type 0} {plus times : A → A → A} (laws
       → HasValue plus turn (carried plus times default (multiple_plan n) parts) (times left right)
   multiple_carried default parts n turn left right admitted same vx vy =
       let each = each_from_all Admits parts admitted in
-      let e = forms_carried plus times default parts (multiple_plan n) (list_product plus times (take 1 parts) (drop 1 parts)) (multiple_forms plus times default parts n same) in
-      subst (λ xs. HasValue plus turn xs (times left right)) (sym e) (value_of_list_product turn (take 1 parts) (drop 1 parts) left right (take_each 1 parts each) (drop_each 1 parts each) vx vy)
+      let e = forms_carried plus times default parts (multiple_plan n)
+      (list_product plus times (take 1 parts) (drop 1 parts)) (multiple_forms plus times default parts n same) in
+      subst (λ xs. HasValue plus turn xs (times left right)) (sym e)
+      (value_of_list_product turn (take 1 parts) (drop 1 parts) left right (take_each 1 parts each)
+      (drop_each 1 parts each) vx vy)
 
 -- Each of the three names earlier places alone: see what it forms of some numbers.
 some_items : ℕ → List ℕ
@@ -200,15 +260,21 @@ some_count count = length-range_with_len 0 count
 
 pub sum_is_plan : (m n : ℕ) → IsPlan (sum_plan m n)
 sum_is_plan m n =
-    forms_plan ◌+◌ ◌+◌ 0 (some_items (m + n)) (sum_plan m n) (list_sum ◌+◌ (take m (some_items (m + n))) (drop m (some_items (m + n)))) (sum_forms ◌+◌ ◌+◌ 0 (some_items (m + n)) m n (some_count (m + n)))
+    forms_plan ◌+◌ ◌+◌ 0 (some_items (m + n)) (sum_plan m n)
+    (list_sum ◌+◌ (take m (some_items (m + n))) (drop m (some_items (m + n))))
+    (sum_forms ◌+◌ ◌+◌ 0 (some_items (m + n)) m n (some_count (m + n)))
 
 pub product_is_plan : (m n : ℕ) → IsPlan (product_plan m n)
 product_is_plan m n =
-    forms_plan ◌+◌ ◌+◌ 0 (some_items (m + n)) (product_plan m n) (list_product ◌+◌ ◌+◌ (take m (some_items (m + n))) (drop m (some_items (m + n)))) (product_forms ◌+◌ ◌+◌ 0 (some_items (m + n)) m n (some_count (m + n)))
+    forms_plan ◌+◌ ◌+◌ 0 (some_items (m + n)) (product_plan m n)
+    (list_product ◌+◌ ◌+◌ (take m (some_items (m + n))) (drop m (some_items (m + n))))
+    (product_forms ◌+◌ ◌+◌ 0 (some_items (m + n)) m n (some_count (m + n)))
 
 pub multiple_is_plan : (n : ℕ) → IsPlan (multiple_plan n)
 multiple_is_plan n =
-    forms_plan ◌+◌ ◌+◌ 0 (some_items (1 + n)) (multiple_plan n) (list_product ◌+◌ ◌+◌ (take 1 (some_items (1 + n))) (drop 1 (some_items (1 + n)))) (multiple_forms ◌+◌ ◌+◌ 0 (some_items (1 + n)) n (some_count (1 + n)))
+    forms_plan ◌+◌ ◌+◌ 0 (some_items (1 + n)) (multiple_plan n)
+    (list_product ◌+◌ ◌+◌ (take 1 (some_items (1 + n))) (drop 1 (some_items (1 + n))))
+    (multiple_forms ◌+◌ ◌+◌ 0 (some_items (1 + n)) n (some_count (1 + n)))
 
 -- How many parts the operands and the result have.
 pub sum_counts : (m n : ℕ) → ((sum_plan m n).parts ≡ m + n) × (length (sum_plan m n).results ≡ max m n)
@@ -238,6 +304,7 @@ product_counts m n some some' =
     let left_count : length lefts ≡ m = simp length-take (omega (arith, some_count (m + n))) in
     let right_count : length rights ≡ n = simp length-drop (omega (arith, some_count (m + n))) in
     let forms = product_forms ◌+◌ ◌+◌ 0 items m n (some_count (m + n)) in
-    let same = forming.length_has ◌+◌ ◌+◌ 0 items (product_plan m n).steps (product_plan m n).results (list_product ◌+◌ ◌+◌ lefts rights) forms.has in
+    let same = forming.length_has ◌+◌ ◌+◌ 0 items (product_plan m n).steps (product_plan m n).results
+    (list_product ◌+◌ ◌+◌ lefts rights) forms.has in
     let count = length-list_product_of lefts rights (omega (arith, left_count)) (omega (arith, right_count)) in
     (product_operands m n, omega (arith, same, count, left_count, right_count))
