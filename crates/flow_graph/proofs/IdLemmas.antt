@@ -1,5 +1,5 @@
 -- Blocks of a function whose ids stand in its tables.
-use Rattle.std.proofs.Common.{ℕ, ◌<◌, List, [], ◌∷◌, ◌++◌, length, map, flat_map, All, arith}
+use Rattle.std.proofs.Common.{◌≢◌, ℕ, ◌<◌, List, [], ◌∷◌, ◌++◌, length, map, flat_map, All, refl, arith}
 use Rattle.std.proofs.lemmas.List.Elements.{All-nil, All-cons, All-head, All-tail, All-append, All-contains, Contains-get_or, Contains-append_left, Contains-append_right}
 use Rattle.ir_model.specs.declared.op.Case.{Case}
 use Rattle.ir_model.specs.declared.op.Op.{Op}
@@ -8,7 +8,7 @@ use Rattle.ir_model.specs.declared.function.Instr.{Instr}
 use Rattle.ir_model.specs.declared.function.Block.{Block}
 use Rattle.ir_model.specs.declared.function.Param.{Param}
 use Rattle.ir_model.specs.declared.function.Function.{Function}
-use Rattle.ir_model.specs.Shapes.{targets}
+use Rattle.ir_model.specs.Shapes.{targets, entry}
 use Rattle.ir_model.specs.Sites.{DefinesValue, UsesBlock, operand_sites, result_sites, op_sites, instr_sites, block_sites}
 use Rattle.ir_model.specs.Walks.{successors}
 use Rattle.ir_model.specs.WellMade.{IsInTable, HasIds}
@@ -83,3 +83,10 @@ module _ (f : Function) where
       blocks_labelled f.blocks
       (all_right (IsInTable f) (map (λ (p : Param). DefinesValue p.value.0) f.params)
       (flat_map block_sites f.blocks) ids)
+
+  entry_in : (blocks : List Block) → All IsLabelledBlock blocks → blocks ≢ [] → IsLabel (entry blocks)
+  entry_in [] all some = absurd (some refl)
+  entry_in (block ∷ blocks) all some = (All-head IsLabelledBlock block blocks all).0
+
+  pub entry_within : HasIds f → f.blocks ≢ [] → IsLabel (entry f.blocks)
+  entry_within ids = entry_in f.blocks (labelled ids)

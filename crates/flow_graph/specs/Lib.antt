@@ -2,3 +2,4 @@ pub mod Graph
 pub mod TextOrder
 pub mod EdgeLists
 pub mod Flow
+pub mod EntryWalks

@@ -2,6 +2,7 @@
 #![tactic(auto)]
 
 mod edges;
+mod entry_walks;
 mod flow;
 mod graph;
 mod reach;
@@ -10,6 +11,7 @@ mod search;
 mod sources;
 
 pub use edges::Edges;
+pub use entry_walks::EntryWalks;
 pub use flow::Flow;
 pub use graph::{arcs, no_rows};
 pub use reverse::reversed;

@@ -1,13 +1,14 @@
 //! The first rule of well-formedness that a module breaks.
 
-ghost use Rattle.std.specs.Prelude.{◌≡◌, ◌≢◌, [], ◌∷◌, Ok, None, IfOk, IfSome, unwrap_or};
+ghost use Rattle.std.specs.Prelude.{◌≡◌, [], ◌∷◌, Ok, None, IfOk, IfSome, unwrap_or};
 ghost use Rattle.std.specs.Option.{option_copied, option_map};
-ghost use Rattle.ir_model.specs.WellMade.{HasIds, HaveIds, AreWellMade};
-ghost use Rattle.ir_rules.specs.Rules.{first_broken, first_item_broken};
+ghost use Rattle.ir_model.specs.WellMade.{IsWellMade, HaveIds, AreWellMade};
+ghost use Rattle.ir_rules.specs.Rules.{first_item_broken};
+ghost use Rattle.ir_check.specs.Shaped.{IsShaped};
 ghost use Rattle.ir_rules.specs.Accepted.{body_of, IsAccepted, IsBrokenAt, IsAcceptedModule, IsFault};
 
-use flow_graph::Flow;
-use ir_check::{Callees, Ill, check_function, check_module};
+use flow_graph::EntryWalks;
+use ir_check::{Callees, Ill, Shaped, check_module, check_shape};
 use ir_model::{Function, Item, Module, Place, Rule};
 use scev_base::FuncId;
 use ssa_check::{SsaFault, check_uses};
@@ -25,8 +26,8 @@ pub struct Fault {
 /// The first rule that a module breaks: on what stands outside functions, or else in the first function that isn't
 /// accepted. None comes exactly where the module breaks none.
 ///
-/// The error comes only where there is no memory. The time is that of `check_module`, and of `check_function`,
-/// `Flow::new` and `check_uses` for each function.
+/// The error comes only where there is no memory. The time is that of `check_module`, and of `check_shape`,
+/// `EntryWalks::of` and `check_uses` for each function.
 pub fn first_fault(alloc: Global, m: &Module) -> Result<Option<Fault>, AllocError>
     requires ids { HaveIds m.now }
     requires well_made { AreWellMade m.now }
@@ -96,37 +97,32 @@ pub(crate) fn body_of(item: &Item) -> Option<&Function>
 }
 
 /// The first rule that a function breaks: one of its shape, or else the one on uses.
-fn function_fault(
+fn function_fault<'m>(
     alloc: Global,
-    callees: &Callees<'_>,
-    f: &Function,
+    callees: &Callees<'m>,
+    f: &'m Function,
 ) -> Result<Option<(Rule, Place)>, AllocError>
-    requires ids { HasIds f.now }
-    requires some_block { f.now.blocks ≢ [] }
+    requires well_made { IsWellMade f.now }
     ensures accepted { result ≡ Ok None → IsAccepted callees.now f.now }
     ensures refused { IfOk result (λ found. IfSome found (λ fault. IsBrokenAt callees.now f.now fault.0 fault.1)) }
 {
-    match check_function(alloc, callees, f) {
-        Ok(()) => use_fault(alloc, callees, f),
+    match check_shape(alloc, callees, f) {
+        Ok(shaped) => use_fault(alloc, &shaped),
         Err(Ill::Broken { rule, place }) => Ok(Some((rule, place))),
         Err(Ill::OutOfMemory) => Err(AllocError),
     }
 }
 
 /// Where a function of the right shape breaks the rule on uses.
-fn use_fault(
-    alloc: Global,
-    callees: &Callees<'_>,
-    f: &Function,
-) -> Result<Option<(Rule, Place)>, AllocError>
-    requires ids { HasIds f.now }
-    requires some_block { f.now.blocks ≢ [] }
-    requires shape { first_broken callees.now f.now ≡ None }
-    ensures accepted { result ≡ Ok None → IsAccepted callees.now f.now }
-    ensures refused { IfOk result (λ found. IfSome found (λ fault. IsBrokenAt callees.now f.now fault.0 fault.1)) }
+fn use_fault(alloc: Global, shaped: &Shaped<'_>) -> Result<Option<(Rule, Place)>, AllocError>
+    requires { IsShaped shaped.now.signatures shaped.now.function }
+    ensures accepted { result ≡ Ok None → IsAccepted shaped.now.signatures shaped.now.function }
+    ensures refused { IfOk result (λ found. IfSome found
+        (λ fault. IsBrokenAt shaped.now.signatures shaped.now.function fault.0 fault.1)) }
 {
-    let flow = Flow::new(alloc, f)?;
-    match check_uses(alloc, f, &flow) {
+    let f = shaped.function();
+    let walks = EntryWalks::of(alloc, f)?;
+    match check_uses(alloc, f, &walks) {
         Ok(()) => Ok(None),
         Err(SsaFault::UseBeforeDef { value, block }) => {
             Ok(Some((Rule::UseBeforeDef, Place::UseIn(value, block))))

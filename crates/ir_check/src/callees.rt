@@ -49,6 +49,13 @@ impl<'a> Callees<'a> {
         self.signatures.functions.get(*place)
     }
 
+    /// What they were made of.
+    pub(crate) fn signatures(&self) -> &'a Signatures
+        ensures { result.now ≡ self.now }
+    {
+        self.signatures
+    }
+
     /// How many globals the module has.
     pub(crate) fn globals(&self) -> u64
         ensures { result ≡ self.now.globals }

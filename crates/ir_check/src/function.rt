@@ -41,7 +41,7 @@ const LATER_RULES: [Rule; 12] = [
 /// one that is and its first place in text order. The rule on uses and definitions isn't among them.
 ///
 /// Time linear in the function, beside the sorting of the edges into a block and of a phi's entries.
-pub fn check_function(alloc: Global, callees: &Callees<'_>, f: &Function) -> Result<(), Ill>
+pub(crate) fn check_function(alloc: Global, callees: &Callees<'_>, f: &Function) -> Result<(), Ill>
     requires ids { HasIds f.now }
     ensures accepted { OnOk result (first_broken callees.now f.now ≡ None) }
     ensures refused { (rule : AnyRule) (place : AnyPlace) → result ≡ Err (Ill.Broken rule place)

@@ -1,4 +1,4 @@
-//! The rules of well-formedness, checked. `check_module` looks at what stands outside functions, `check_function` at
+//! The rules of well-formedness, checked. `check_module` looks at what stands outside functions, `check_shape` at
 //! one function; each answers the first rule that is broken, with its first place in text order.
 #![tactic(auto)]
 
@@ -34,8 +34,9 @@ mod limits;
 mod function;
 mod initialisers;
 mod items;
+mod shaped;
 
 pub use callees::Callees;
-pub use function::check_function;
 pub use ill::Ill;
 pub use items::check_module;
+pub use shaped::{Shaped, check_shape};

@@ -1,4 +1,11 @@
+mod Elements
 mod Trails
+mod Dominance
+mod OnceDefined
+mod Limited
+mod CountLemmas
+mod OperandUses
+mod RankLemmas
 mod DefinitionLemmas
 mod SizeLemmas
 mod UseLemmas

@@ -8,7 +8,8 @@ use Rattle.ir_model.specs.Places.{is_param, given_at}
 use Rattle.ir_model.specs.Shapes.{register_of, result_of, entry}
 use Rattle.ir_model.specs.WellMade.{HasIds}
 use Rattle.flow_graph.specs.Graph.{IsMarked}
-use Rattle.flow_graph.specs.Flow.{FlowParts, IsFlowOf, LeadsPast}
+use Rattle.flow_graph.specs.EntryWalks.{EntryParts, AreEntryWalksOf}
+use Rattle.flow_graph.specs.Flow.{LeadsPast}
 use Rattle.ir_rules.specs.Uses.{Use, size_of}
 use Rattle.ssa_check.specs.declared.definitions.Definition.{Definition}
 use Rattle.ssa_check.specs.declared.definitions.Definition.TheVariants.{Nowhere, Parameter, At}
@@ -46,9 +47,9 @@ AreWithin bound instrs = All (λ (instr : Instr). All (λ v. v < bound) (result_
 abbrev pub AreMarksPast : Function → ℕ → List Bool → Type 0
 AreMarksPast f d row = (b : ℕ) → IsMarked row b ↔ LeadsPast f d (entry f.blocks) b
 
--- The flow of a function with its ids, and for some of its blocks such rows.
-pub record AreTables (f : Function) (flow : FlowParts) (rows : List (Option (List Bool))) : Type 0 where
+-- The walks of a function with its ids, and for some of its blocks such rows.
+pub record AreTables (f : Function) (walks : EntryParts) (rows : List (Option (List Bool))) : Type 0 where
   pub ids : HasIds f
-  pub is : IsFlowOf f flow
+  pub is : AreEntryWalksOf f walks
   pub size : length rows ≡ length f.labels
   pub marks : (d : ℕ) (row : List Bool) → slice_get rows d ≡ Some (Some row) → AreMarksPast f d row

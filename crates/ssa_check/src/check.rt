@@ -2,7 +2,7 @@
 
 ghost use Rattle.std.specs.Prelude.{◌≡◌, OnOk, Err};
 ghost use Rattle.ir_model.specs.WellMade.{HasIds};
-ghost use Rattle.flow_graph.specs.Flow.{IsFlowOf};
+ghost use Rattle.flow_graph.specs.EntryWalks.{AreEntryWalksOf};
 ghost use Rattle.ir_rules.specs.Uses.{Use, UsesAreDefined, IsFirstBroken};
 ghost use Rattle.scev_base.specs.declared.ids.BlockId.{BlockId as Block};
 ghost use Rattle.scev_base.specs.declared.ids.ValueId.{ValueId as Value};
@@ -12,7 +12,7 @@ use crate::avoiding::Avoiding;
 use crate::fault::SsaFault;
 use crate::reads::reads;
 use crate::sizes::Sizes;
-use flow_graph::Flow;
+use flow_graph::EntryWalks;
 use ir_model::Function;
 use std::alloc::Global;
 
@@ -26,16 +26,16 @@ use std::alloc::Global;
 ///
 /// It takes time linear in the function's size, and for each block that defines a value used in another one at most one
 /// search along the edges.
-pub fn check_uses(alloc: Global, f: &Function, flow: &Flow) -> Result<(), SsaFault>
+pub fn check_uses(alloc: Global, f: &Function, walks: &EntryWalks) -> Result<(), SsaFault>
     requires ids { HasIds f.now }
-    requires flow { IsFlowOf f.now flow.now }
+    requires walks { AreEntryWalksOf f.now walks.now }
     ensures accepted { OnOk result (UsesAreDefined f.now) }
     ensures refused { (value : Value) (block : Block) → result ≡ Err (fault.UseBeforeDef value block)
         → (use_ : Use) × IsFirstBroken f.now use_ × (use_.value ≡ value.0) × (use_.user ≡ block.0) }
 {
     let sizes = Sizes::of(alloc, f)?;
     let reads = reads(alloc, &sizes)?;
-    let mut avoiding = Avoiding::of(alloc, f, flow)?;
+    let mut avoiding = Avoiding::of(alloc, f, walks)?;
     for read in reads.as_slice() {
         if avoiding.is_broken(alloc, read)? {
             return Err(SsaFault::UseBeforeDef {

@@ -65,6 +65,13 @@ impl<'a> Definitions<'a> {
         }
     }
 
+    /// The table by itself.
+    pub(crate) fn into_table(self) -> Vec<Definition>
+        ensures { (v : ℕ) → slice_index_or result.items v Nowhere ≡ definition_of self.entry v }
+    {
+        self.table
+    }
+
     /// The function itself.
     pub(crate) fn function(&self) -> &'a Function
         ensures { result.now ≡ self.now }

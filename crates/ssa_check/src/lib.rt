@@ -13,5 +13,12 @@ mod sizes;
 mod avoiding;
 mod check;
 
+// What is known of a function that is accepted.
+mod assigned;
+mod checked;
+mod held;
+mod ranks;
+
 pub use check::check_uses;
+pub use checked::{Checked, check_ssa};
 pub use fault::SsaFault;

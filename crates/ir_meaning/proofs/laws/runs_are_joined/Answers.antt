@@ -1,5 +1,0 @@
-use Rattle.ir_meaning.proofs.RunSteps.{after-append}
-use Rattle.ir_meaning.proofs.laws.runs_are_joined.Goals as goal
-
-pub returns : goal.returns
-returns c = after-append
