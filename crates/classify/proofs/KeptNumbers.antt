@@ -21,7 +21,8 @@ use Rattle.ir_meaning.specs.State.{Registers, Event, State}
 use Rattle.ir_meaning.specs.Operands.{chosen, of_type, operand_value}
 use Rattle.ir_meaning.specs.Rows.{on_numbers, added}
 use Rattle.ir_model.specs.Shapes.{is_phi}
-use Rattle.ir_meaning.specs.Step.{Gives, Goes, with_value, computed, effect}
+use Rattle.ir_meaning.specs.Effects.{Goes}
+use Rattle.ir_meaning.specs.Step.{Gives, with_value, computed, effect}
 use Rattle.ir_meaning.proofs.RegisterChanges.{gone_on}
 use Rattle.classify.specs.Recurrence.{IsNumeral, Increments}
 

@@ -18,7 +18,8 @@ use Rattle.ir_meaning.specs.declared.value.Value.TheVariants as value
 use Rattle.ir_meaning.specs.State.{Registers, Event, State}
 use Rattle.ir_meaning.specs.Operands.{chosen, operand_value}
 use Rattle.ir_model.specs.Shapes.{block_of, leading_phis, is_terminator}
-use Rattle.ir_meaning.specs.Step.{Goes, Enters, effect, way, entry_from, phi_value, with_phis, behind_phis, with_given, after_effect, instr_at}
+use Rattle.ir_meaning.specs.Effects.{Goes}
+use Rattle.ir_meaning.specs.Step.{Enters, effect, way, entry_from, phi_value, with_phis, behind_phis, with_given, after_effect, instr_at}
 use Rattle.ir_meaning.specs.Run.{Run, start, last}
 use Rattle.ir_meaning.specs.Thin.{IsThinFunction}
 use Rattle.ir_meaning.proofs.StepShape.{Stepped, stays, ends, goes_on, enters}

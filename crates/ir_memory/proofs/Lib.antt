@@ -1,3 +1,4 @@
+pub mod ByteLemmas
 pub mod SpellingLemmas
 pub mod StoredLemmas
 pub mod MemoryLemmas

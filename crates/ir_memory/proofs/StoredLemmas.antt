@@ -27,7 +27,8 @@ length-stored_as count (loaded.Number n) = length-number_bytes count n
 length-stored_as count loaded.Poison = length-replicate count byte.Poison
 
 -- each byte of a number is a number below 256
-pub number_bytes-numbers : (count n k : ℕ) (default : Byte) → k < length (number_bytes count n) → IsNumber (get_or (number_bytes count n) k default)
+pub number_bytes-numbers : (count n k : ℕ) (default : Byte) → k < length (number_bytes count n)
+    → IsNumber (get_or (number_bytes count n) k default)
 unfolding number_bytes
 number_bytes-numbers zero n k default within = absurd (omega arith)
 number_bytes-numbers (suc count) n zero default within = mod_below n 256 (omega arith)
@@ -52,7 +53,9 @@ spelled-number_bytes (suc count) n fits =
     omega (arith, spelled-number_bytes count (n / 256) rest)
 
 -- bytes that are numbers are the bytes of the number that they spell
-pub number_bytes-spelled : (bytes : List Byte) → ((k : ℕ) (default : Byte) → k < length bytes → IsNumber (get_or bytes k default)) → bytes ≡ number_bytes (length bytes) (spelled bytes)
+pub number_bytes-spelled : (bytes : List Byte)
+    → ((k : ℕ) (default : Byte) → k < length bytes → IsNumber (get_or bytes k default))
+    → bytes ≡ number_bytes (length bytes) (spelled bytes)
 unfolding number_bytes
 number_bytes-spelled [] numbers = refl
 number_bytes-spelled (byte.Number n ∷ bytes) numbers =
@@ -66,7 +69,8 @@ number_bytes-spelled (byte.Unwritten ∷ bytes) numbers =
     absurd (numbers 0 byte.Poison (omega arith))
 
 -- what was stored is read again
-pub loaded_from-stored_as : (count bits choice : ℕ) (value : Loaded) → 0 < count → 256 ^ count ≡ 2 ^ bits → FitsWidth bits value → loaded_from (stored_as count value) bits choice ≡ value
+pub loaded_from-stored_as : (count bits choice : ℕ) (value : Loaded) → 0 < count → 256 ^ count ≡ 2 ^ bits
+    → FitsWidth bits value → loaded_from (stored_as count value) bits choice ≡ value
 loaded_from-stored_as count bits choice (loaded.Number n) some same fits =
     let small : n < 256 ^ count = rw same fits in
     rw

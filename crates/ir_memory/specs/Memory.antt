@@ -1,5 +1,6 @@
 -- The memory of a program: a list of blocks, each a list of bytes.
-use Rattle.std.specs.Prelude.{◌≡◌, ◌≢◌, ℕ, ◌+◌, ◌<◌, ◌≤◌, ◌⊎◌, List, [], ◌∷◌, ◌++◌, replicate, Some, slice_get, length, take, drop, slice_index_or, slice_set}
+use Rattle.std.specs.Prelude.{◌≡◌, ◌≢◌, ℕ, ◌+◌, ◌<◌, ◌≤◌, ◌⊎◌, Bool, true, false, ◌&&◌, ◌==◌, nat_lt, nat_le, List, [], ◌∷◌, ◌++◌, replicate, Some, slice_get, length, take, drop, slice_index_or, slice_set}
+use Rattle.std.specs.List.{list_all}
 use Rattle.ir_memory.specs.declared.byte.Byte.{Byte}
 use Rattle.ir_memory.specs.declared.byte.Byte.TheVariants as byte
 use Rattle.ir_memory.specs.declared.loaded.Loaded.{Loaded}
@@ -17,6 +18,25 @@ block_at memory block = slice_index_or memory block []
 abbrev pub InBlock : Memory → ℕ → ℕ → ℕ → Type 0
 InBlock memory block offset count =
     (block < length memory) × (offset + count ≤ length (block_at memory block))
+
+abbrev pub is_in_block : Memory → ℕ → ℕ → ℕ → Bool
+is_in_block memory block offset count =
+    nat_lt block (length memory) && nat_le (offset + count) (length (block_at memory block))
+
+-- whether each byte is a number below 256, poison or unwritten
+abbrev pub is_byte : Byte → Bool
+is_byte (byte.Number n) = nat_lt n 256
+is_byte byte.Poison = true
+is_byte byte.Unwritten = true
+
+abbrev pub are_bytes : Memory → Bool
+are_bytes memory = list_all (list_all is_byte) memory
+
+-- whether two memories have blocks of the same sizes
+abbrev pub same_sizes : Memory → Memory → Bool
+same_sizes [] [] = true
+same_sizes (block ∷ blocks) (other ∷ others) = (length block == length other) && same_sizes blocks others
+same_sizes _ _ = false
 
 -- so many bytes of a block from the offset on
 abbrev pub bytes_at : Memory → ℕ → ℕ → ℕ → List Byte

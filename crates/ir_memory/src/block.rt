@@ -38,6 +38,13 @@ impl Block {
         Ok(Block { bytes })
     }
 
+    /// A block of these bytes.
+    pub(crate) fn of(bytes: Vec<Byte>) -> Block
+        ensures { result ≡ bytes.items }
+    {
+        Block { bytes }
+    }
+
     /// How many bytes it has.
     pub(crate) fn len(&self) -> usize
         ensures { result ≡ length self.now }

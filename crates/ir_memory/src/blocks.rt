@@ -1,13 +1,15 @@
 //! The memory of a program.
 
-ghost use Rattle.std.specs.Prelude.{◌≡◌, ◌↔◌, [], length, slice_get};
+ghost use Rattle.std.specs.Prelude.{◌≡◌, ◌↔◌, ◌++◌, [], ◌∷◌, true, length, slice_get};
 ghost use Rattle.std.specs.Prelude.{IsTrue, IsOk, IfOk, OnOk, OnErr};
 ghost use Rattle.std.specs.Option.{option_map};
 ghost use Rattle.ir_memory.specs.Spelling.{IsAccessWidth, byte_count, FitsWidth};
-ghost use Rattle.ir_memory.specs.Memory.{InBlock, with_block, load_of, store_of};
+ghost use Rattle.std.specs.List.{list_all};
+ghost use Rattle.ir_memory.specs.Memory.{is_byte, InBlock, are_bytes, same_sizes, with_block, load_of, store_of};
 
 use crate::access::Access;
 use crate::block::Block;
+use crate::byte::Byte;
 use crate::loaded::Loaded;
 use scev_base::Width;
 use std::alloc::{AllocError, Global};
@@ -21,11 +23,14 @@ pub struct Blocks {
 }
 
 impl Model for Blocks {
-    ghost use Rattle.ir_memory.specs.Memory.{Memory};
+    ghost use Rattle.std.specs.Prelude.{◌≡◌, true};
+    ghost use Rattle.ir_memory.specs.Memory.{Memory, are_bytes};
 
     ghost Value = { Memory };
 
     ghost view = { λ m. m.blocks.items };
+
+    ghost invariant = { λ m. are_bytes m.blocks.items ≡ true };
 }
 
 impl Blocks {
@@ -73,6 +78,18 @@ impl Blocks {
         Ok(number)
     }
 
+    /// Adds a last block of these bytes, and answers its number. Where no memory is found for it nothing changes.
+    pub fn add_bytes(&mut self, bytes: Vec<Byte>) -> Result<u64, AllocError>
+        requires fit { list_all is_byte bytes.items ≡ true }
+        ensures number { IfOk result (λ number. number ≡ length self.old) }
+        ensures ok { OnOk result (self.new ≡ self.old ++ bytes.items ∷ []) }
+        ensures err { OnErr result (self.new ≡ self.old) }
+    {
+        let number = self.blocks.len() as u64;
+        self.blocks.push(Block::of(bytes))?;
+        Ok(number)
+    }
+
     /// Loads a value of the width at a byte of the block: poison if one of its bytes is poison; else, if
     /// nothing was stored in one of them, the choice modulo 2 to the width; else the number that its bytes
     /// spell, the lowest byte first. It fails exactly where a byte of the access isn't in the block, or
@@ -106,6 +123,28 @@ impl Blocks {
         let found = &mut self.blocks[block as usize];
         found.store(offset, w, value);
         Ok(())
+    }
+
+    /// Each byte is a number below 256, poison or unwritten, as its type says.
+    pub fn bytes_fit(&self)
+        ensures { are_bytes self.now ≡ true }
+    {
+        let _ = &self.blocks;
+    }
+
+    /// Whether the two have blocks of the same sizes.
+    pub fn has_sizes_of(&self, other: &Blocks) -> bool
+        ensures { result ≡ same_sizes other.now self.now }
+    {
+        if self.len() != other.len() {
+            return false;
+        }
+        for i in 0..self.len() {
+            if self.blocks[i].len() != other.blocks[i].len() {
+                return false;
+            }
+        }
+        true
     }
 
     /// A memory of its own with the same blocks.

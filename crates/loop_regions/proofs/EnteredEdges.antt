@@ -12,7 +12,7 @@ use Rattle.ir_model.specs.declared.function.Block.{Block}
 use Rattle.ir_model.specs.declared.function.Function.{Function}
 use Rattle.ir_meaning.specs.declared.value.Value.{Value}
 use Rattle.ir_meaning.specs.declared.value.Value.TheVariants as value
-use Rattle.ir_meaning.specs.declared.phase.Phase.TheVariants as phase
+use Rattle.ir_meaning.specs.Phases as phase
 use Rattle.ir_meaning.specs.State.{Registers, State}
 use Rattle.ir_meaning.specs.Operands.{operand_value}
 use Rattle.ir_model.specs.Shapes.{block_of}

@@ -27,7 +27,7 @@ use Rattle.ir_rules.specs.Names.{unless, undefined_at}
 use Rattle.ir_rules.specs.Rules.{broken, shape_rules, first_with, first_of}
 use Rattle.ir_rules.specs.Spots.{Spot, block_spots, spots, place, places_where}
 use Rattle.ir_rules.specs.Types.{types_fit, is_wide, widths_fit, bad_params}
-use Rattle.ir_rules.specs.Values.{misuses_pointer, call_fits}
+use Rattle.ir_rules.specs.Values.{is_void_value, misuses_pointer, call_fits}
 use Rattle.never_stuck.proofs.Elements.{contains_at, contains_more, map_none, append_none, map_has, flat_map_has, flat_map_none, none_passes, any_found}
 use Rattle.never_stuck.proofs.Sound.{StandsIn, Facts}
 
@@ -262,6 +262,8 @@ module _ (signatures : Signatures) (f : Function) (made : IsWellMade f) (accepte
           (append_none (unless (is_wide f.ret) (BlockAt (record { 0 = entry f.blocks })))
           (bad_params f.params ++ places_where (λ (spot : Spot). not (widths_fit spot.instr.op)) f)
           (unbroken signatures f accepted 4 rule.BadWidth refl)).1).1);
+      voids = fails_there (λ (spot : Spot). is_void_value spot.instr)
+          (unbroken signatures f accepted 8 rule.VoidValue refl);
       pointers = fails_there (λ (spot : Spot). misuses_pointer spot.instr.op)
           (unbroken signatures f accepted 10 rule.PointerPredicate refl);
       calls = not-false (call_fits signatures instr.op)

@@ -168,5 +168,6 @@ module _ (signatures : Signatures) (f : Function) (made : IsWellMade f) (accepte
             within = leading_ends signatures f made accepted to block there;
             behind = omega arith;
             held = λ v passed. set.2 v (held_or_given v passed);
+            bytes = sound.bytes;
           },
         )

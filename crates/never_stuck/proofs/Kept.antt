@@ -1,6 +1,7 @@
 -- Each step of a sound state that runs leads to a sound state that runs, or ends the run, and never stuck.
-use Rattle.std.proofs.Common.{◌≡◌, ◌≢◌, ℕ, suc, ◌+◌, ◌<◌, ◌⊎◌, true, false, length, Some, Contains, refl, inl, inr, arith}
+use Rattle.std.proofs.Common.{◌≡◌, ◌≢◌, ℕ, suc, ◌+◌, ◌<◌, ◌⊎◌, true, false, List, length, Option, Some, None, Contains, refl, sym, ◌∙◌, inl, inr, arith}
 use Rattle.std.proofs.lemmas.Bool.{cases_Bool}
+use Rattle.std.proofs.lemmas.Option.{none-some}
 use Rattle.ir_model.specs.declared.function.Instr.{Instr}
 use Rattle.ir_model.specs.declared.function.Function.{Function}
 use Rattle.ir_model.specs.declared.signature.Signatures.{Signatures}
@@ -8,24 +9,26 @@ use Rattle.ir_model.specs.Defined.{given_type}
 use Rattle.ir_model.specs.Shapes.{block_of, targets, is_terminator}
 use Rattle.ir_model.specs.Walks.{Edge}
 use Rattle.ir_rules.specs.Uses.{UsesAreDefined}
+use Rattle.ir_memory.specs.Memory.{Memory}
 use Rattle.ir_meaning.specs.declared.value.Value.{Value}
-use Rattle.ir_meaning.specs.declared.phase.Phase.{Phase}
-use Rattle.ir_meaning.specs.declared.phase.Phase.TheVariants as phase
+use Rattle.ir_meaning.specs.Phases.{Phase}
+use Rattle.ir_meaning.specs.Phases as phase
 use Rattle.ir_meaning.specs.declared.choice.Choice.{Choice}
-use Rattle.ir_meaning.specs.State.{State, is_running}
-use Rattle.ir_meaning.specs.Values.{is_of_type}
+use Rattle.ir_meaning.specs.State.{Event, State, is_running}
 use Rattle.ir_meaning.specs.Operands.{chosen}
-use Rattle.ir_meaning.specs.Step.{Computed, Gives, Fails, Way, Enters, Leaves, computed, way, gone, entered, after_effect, after_way, instr_at, carried_out, step}
-use Rattle.never_stuck.specs.NeverStuck.{IsBuilt}
-use Rattle.never_stuck.proofs.Sound.{StandsIn, Sound}
+use Rattle.ir_meaning.specs.Effects.{Effect, Goes, Ends}
+use Rattle.ir_meaning.specs.Run.{GivesTo}
+use Rattle.ir_meaning.specs.Step.{Way, Enters, Leaves, way, effect, with_given, entered, after_effect, after_way, instr_at, carried_out, step}
+use Rattle.never_stuck.proofs.Sound.{Holds, StandsIn, Sound}
 use Rattle.ir_model.specs.WellMade.{IsWellMade}
 use Rattle.ir_rules.specs.Accepted.{IsAccepted}
-use Rattle.never_stuck.proofs.TypedOps.{computed_typed, way_typed}
+use Rattle.never_stuck.proofs.TypedEffects.{SuitsGiven, Suits, effect_typed}
+use Rattle.never_stuck.proofs.TypedOps.{way_typed}
 use Rattle.never_stuck.proofs.Accepted.{ends_at, facts_at}
 use Rattle.never_stuck.proofs.DefinedTypes.{result_typed}
 use Rattle.never_stuck.proofs.Elements.{contains_at, flat_map_has}
 use Rattle.never_stuck.proofs.Registers.{SuitsResult, held_set}
-use Rattle.never_stuck.proofs.Standing.{built_at, stands_at, at_instr, no_phi, operands_held, passed_next}
+use Rattle.never_stuck.proofs.Standing.{stands_at, at_instr, no_phi, operands_held, passed_next}
 use Rattle.never_stuck.proofs.Entered.{entered_sound}
 
 -- A state is sound and runs, or the run has come to an end that isn't stuck.
@@ -41,19 +44,29 @@ carried_on f choice s instr running at =
     rw (runs, at) refl
 
 module _ (signatures : Signatures) (f : Function) (made : IsWellMade f) (accepted : IsAccepted signatures f)
-    (defined : UsesAreDefined f) (built : IsBuilt f) (choice : Choice) (s : State) (sound : Sound f s)
+    (defined : UsesAreDefined f) (choice : Choice) (s : State) (sound : Sound f s)
     (running : s.phase ≡ phase.Running) where
   module _ (instr : Instr) (stands : StandsIn f s.block s.place sound.block instr) where
     -- ---- an instruction that ends no block
 
     module _ (other : is_terminator instr.op ≡ false) where
-      next_sound : (x : Value) → is_of_type (given_type instr.op) x ≡ true
-          → Sound f (after_effect instr.result s (gone s (Gives x)))
-      next_sound x typed =
+      -- what was held is held with what is given, and so is the result
+      held_given : (x : Option Value) → SuitsGiven (given_type instr.op) instr.result x → (v : ℕ)
+          → Holds f s.registers v ⊎ GivesTo v instr → Holds f (with_given s.registers instr.result x) v
+      held_given None none v known =
+          elim known [ inl held ↦ held | inr gives ↦ absurd (none-some (record { 0 = v }) (sym none ∙ gives)) ]
+      held_given (Some x) typed v known =
+          let suits : SuitsResult f instr.result x =
+          λ v gives.
+          rw (result_typed signatures f made accepted s.block s.place sound.block instr v stands gives) typed in
+          held_set f s.registers instr.result x suits v known
+
+      next_sound : (x : Option Value) (memory : Memory) (events : List Event)
+          → Suits (given_type instr.op) instr.result (Goes x memory events)
+          → Sound f (after_effect instr.result s (Goes x memory events))
+      next_sound x memory events suits =
           let within : suc s.place < length sound.block.instrs =
           ends_at signatures f made accepted s.block s.place sound.block instr stands other in
-          let suits : SuitsResult f instr.result x =
-          λ v gives. rw (result_typed signatures f made accepted s.block s.place sound.block instr v stands gives) typed in
           record {
             before = sound.before;
             trail = sound.trail;
@@ -63,31 +76,29 @@ module _ (signatures : Signatures) (f : Function) (made : IsWellMade f) (accepte
             within = omega (arith, within);
             behind = omega (arith, sound.behind);
             held = λ v passed.
-                held_set f s.registers instr.result x suits v
-                (elim (passed_next signatures f made accepted s sound instr stands v (s.place + 1) (omega arith) passed) [
-                  | inl before ↦ inl (sound.held v before)
-                  | inr gives ↦ inr gives
-                ]);
+                let known =
+                passed_next signatures f made accepted s sound instr stands v (s.place + 1) (omega arith) passed in
+                held_given x suits.0 v
+                (elim known [ inl before ↦ inl (sound.held v before) | inr gives ↦ inr gives ]);
+            bytes = suits.1;
           }
 
-      goes_well : (c : Computed) → computed s.registers (chosen choice) instr.op ≡ c
-          → ((x : Value) × (c ≡ Gives x) × (is_of_type (given_type instr.op) x ≡ true)) ⊎ (c ≡ Fails phase.Undefined)
-          → IsWell f (after_effect instr.result s (gone s c))
-      goes_well c is known =
-          elim known [
-            | inl gives ↦ rw gives.1 (inl (next_sound gives.0 gives.2, running))
-            | inr fails ↦ rw fails (inr (phase.Undefined, refl, (λ e. cc), (λ e. cc)))
+      goes_well : (what : Effect) → Suits (given_type instr.op) instr.result what
+          → IsWell f (after_effect instr.result s what)
+      goes_well (Goes x memory events) suits = inl (next_sound x memory events suits, running)
+      goes_well (Ends how) suits =
+          elim suits [
+            | inl undefined ↦ rw undefined (inr (phase.Undefined, refl, (λ e. cc), (λ e. cc)))
+            | inr stopped ↦ rw stopped (inr (phase.Stopped, refl, (λ e. cc), (λ e. cc)))
           ]
 
       pub on_well : IsWell f (carried_out f choice s (Some instr))
       on_well =
           let held = operands_held signatures f made accepted s sound instr stands defined in
-          let known =
-          computed_typed signatures f s.block instr s.registers (chosen choice)
-          (facts_at signatures f made accepted s.block s.place sound.block instr stands)
-          (built_at signatures f made accepted built s.block s.place sound.block instr stands) other
-          (no_phi signatures f made accepted s sound instr stands) held in
-          rw other (goes_well (computed s.registers (chosen choice) instr.op) refl known)
+          rw other (goes_well (effect choice s instr.op)
+          (effect_typed signatures f choice s sound.bytes s.block instr
+          (facts_at signatures f made accepted s.block s.place sound.block instr stands) other
+          (no_phi signatures f made accepted s sound instr stands) held))
 
     -- ---- one that ends its block
 

@@ -11,5 +11,6 @@ pub mod Runs
 pub mod Sound
 pub mod Standing
 pub mod Started
+pub mod TypedEffects
 pub mod TypedOps
 pub mod TypedRows

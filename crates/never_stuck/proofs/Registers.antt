@@ -1,10 +1,10 @@
 -- Registers that hold values of their types, as they are set: by arguments, by results, and by phis.
-use Rattle.std.proofs.Common.{◌≡◌, ℕ, zero, suc, ◌^◌, ◌==◌, ◌⊎◌, true, List, [], ◌∷◌, Option, Some, None, option_and_then, Contains, slice_get, refl, sym, ◌∙◌, inl, inr, ap, arith}
-use Rattle.std.proofs.lemmas.Bool.{or_cases, cases_eq, eqb-true, eq-eqb, ne_eqb, lt-ltb, cond-true, cond-false, false≢true}
+use Rattle.std.proofs.Common.{◌≡◌, ℕ, zero, suc, ◌==◌, ◌⊎◌, true, List, [], ◌∷◌, Option, Some, None, option_and_then, Contains, slice_get, refl, sym, ◌∙◌, inl, inr, ap, arith}
+use Rattle.std.proofs.lemmas.Bool.{or_cases, cases_eq, eqb-true, eq-eqb, ne_eqb, cond-true, cond-false, false≢true}
 use Rattle.std.proofs.lemmas.Option.{none-some, same_Some}
 use Rattle.scev_base.specs.declared.ids.ValueId.{ValueId}
 use Rattle.ir_model.specs.declared.types.IrType.{IrType}
-use Rattle.ir_model.specs.declared.types.IrType.TheVariants.{Int, Ptr}
+use Rattle.ir_model.specs.declared.types.IrType.TheVariants.{Ptr}
 use Rattle.ir_model.specs.declared.function.Param.{Param}
 use Rattle.ir_model.specs.declared.function.Instr.{Instr}
 use Rattle.ir_model.specs.declared.function.Function.{Function}
@@ -14,20 +14,16 @@ use Rattle.ir_memory.specs.Memory.{Memory}
 use Rattle.ir_meaning.specs.declared.value.Value.{Value}
 use Rattle.ir_meaning.specs.declared.value.Value.TheVariants as value
 use Rattle.ir_meaning.specs.State.{Registers, set}
-use Rattle.ir_meaning.specs.Values.{is_of_type, Fits}
+use Rattle.ir_meaning.specs.Values.{is_of_type, fits}
 use Rattle.ir_meaning.specs.Step.{phi_value, with_phis}
 use Rattle.ir_meaning.specs.Run.{GivesTo, ArgsFit, with_args}
 use Rattle.never_stuck.proofs.Sound.{Holds}
 use Rattle.never_stuck.proofs.Elements.{contains_more}
 
 -- what may be handed in for a parameter is of its type
-fit_typed : (memory : Memory) (kind : IrType) (x : Value) → Fits memory kind x → is_of_type kind x ≡ true
-fit_typed memory (Int w) (value.Number n) fit = lt-ltb n (2 ^ w) fit
-fit_typed memory (Int w) value.Poison fit = refl
+pub fit_typed : (memory : Memory) (kind : IrType) (x : Value) → fits memory kind x ≡ true → is_of_type kind x ≡ true
 fit_typed memory Ptr (value.Pointer block offset) fit = refl
-fit_typed memory Ptr value.Null fit = refl
-fit_typed memory Ptr value.Poison fit = refl
-fit_typed memory _ _ fit = absurd fit
+fit_typed memory _ _ fit = fit
 
 module _ (f : Function) where
   -- A value is of the type of the result, where there is one.

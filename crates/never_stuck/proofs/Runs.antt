@@ -3,13 +3,13 @@ use Rattle.std.proofs.Common.{◌≡◌, ◌≢◌, false, List, [], ◌∷◌, 
 use Rattle.ir_model.specs.declared.function.Function.{Function}
 use Rattle.ir_model.specs.declared.signature.Signatures.{Signatures}
 use Rattle.ir_rules.specs.Uses.{UsesAreDefined}
-use Rattle.ir_meaning.specs.declared.phase.Phase.{Phase}
-use Rattle.ir_meaning.specs.declared.phase.Phase.TheVariants as phase
+use Rattle.ir_meaning.specs.Phases.{Phase}
+use Rattle.ir_meaning.specs.Phases as phase
 use Rattle.ir_meaning.specs.declared.choice.Choice.{Choice}
 use Rattle.ir_meaning.specs.State.{State, is_running}
 use Rattle.ir_meaning.specs.Step.{step}
 use Rattle.ir_meaning.specs.Run.{start, after}
-use Rattle.never_stuck.specs.NeverStuck.{IsBuilt, NeverStuck}
+use Rattle.never_stuck.specs.NeverStuck.{NeverStuck}
 use Rattle.ir_model.specs.WellMade.{IsWellMade}
 use Rattle.ir_rules.specs.Accepted.{IsAccepted}
 use Rattle.never_stuck.proofs.Started.{start_sound}
@@ -34,11 +34,11 @@ not_stuck f t well stuck =
     ]
 
 module _ (signatures : Signatures) (f : Function) (made : IsWellMade f) (accepted : IsAccepted signatures f)
-    (defined : UsesAreDefined f) (built : IsBuilt f) where
+    (defined : UsesAreDefined f) where
   step_well : (choice : Choice) (s : State) → IsWell f s → IsWell f (step f choice s)
   step_well choice s well =
       elim well [
-        | inl runs ↦ step_sound signatures f made accepted defined built choice s runs.0 runs.1
+        | inl runs ↦ step_sound signatures f made accepted defined choice s runs.0 runs.1
         | inr ended ↦ rw (stays_ended f choice s (λ running. ended.3 (sym ended.1 ∙ running))) (inr ended)
       ]
 
@@ -47,7 +47,7 @@ module _ (signatures : Signatures) (f : Function) (made : IsWellMade f) (accepte
   after_well (choice ∷ choices) s well = after_well choices (step f choice s) (step_well choice s well)
 
   pub never_stuck : NeverStuck f
-  never_stuck args memory fit choices =
-      let first = start_sound signatures f made accepted args memory fit in
+  never_stuck args memory may choices =
+      let first = start_sound signatures f made accepted args memory may in
       not_stuck f (after f (start f args memory) choices)
       (after_well choices (start f args memory) (inl (first, refl)))

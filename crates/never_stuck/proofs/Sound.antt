@@ -1,4 +1,4 @@
--- What is kept at each step: the walk so far, the place in its block, and the registers that are set.
+-- What is kept at each step: the walk so far, the place in its block, the registers that are set, and bytes in memory.
 use Rattle.std.proofs.Common.{◌≡◌, ℕ, ◌<◌, ◌≤◌, true, false, List, ◌∷◌, length, Some, Contains, slice_get}
 use Rattle.ir_model.specs.declared.op.Operand.{Operand}
 use Rattle.ir_model.specs.declared.op.Operand.TheVariants as operand
@@ -10,9 +10,10 @@ use Rattle.ir_model.specs.Shapes.{block_of, leading_phis, operands, targets}
 use Rattle.ir_model.specs.Walks.{Trail}
 use Rattle.ir_model.specs.WellMade.{IsFormedInstr}
 use Rattle.ir_rules.specs.Types.{kind_of, types_fit, widths_fit}
-use Rattle.ir_rules.specs.Values.{misuses_pointer, call_fits}
+use Rattle.ir_rules.specs.Values.{is_void_value, misuses_pointer, call_fits}
 use Rattle.ir_rules.specs.Blocks.{entries_fit}
 use Rattle.ir_rules.specs.Uses.{HasPassed}
+use Rattle.ir_memory.specs.Memory.{are_bytes}
 use Rattle.ir_meaning.specs.declared.value.Value.{Value}
 use Rattle.ir_meaning.specs.State.{Registers, State}
 use Rattle.ir_meaning.specs.Values.{is_of_type}
@@ -37,12 +38,13 @@ pub record Facts (signatures : Signatures) (f : Function) (b : ℕ) (instr : Ins
   pub formed : IsFormedInstr instr
   pub types : types_fit f instr.op ≡ true
   pub widths : widths_fit instr.op ≡ true
+  pub voids : is_void_value instr ≡ false
   pub pointers : misuses_pointer instr.op ≡ false
   pub calls : call_fits signatures instr.op ≡ true
   pub entries : entries_fit f b instr.op ≡ true
   pub leads : (to : ℕ) → Contains (targets instr.op) to → (block : Block) × (block_of f to ≡ Some block)
 
--- The state stands in a block behind its leading phis, and what its walk has passed holds values.
+-- The state stands in a block behind its leading phis, what its walk has passed holds values, and its memory bytes.
 pub record Sound (f : Function) (s : State) : Type 0 where
   pub before : List ℕ
   pub trail : s.trail ≡ s.block ∷ before
@@ -52,3 +54,4 @@ pub record Sound (f : Function) (s : State) : Type 0 where
   pub within : s.place < length block.instrs
   pub behind : length (leading_phis block.instrs) ≤ s.place
   pub held : (v : ℕ) → HasPassed f v before s.block s.place → Holds f s.registers v
+  pub bytes : are_bytes s.memory ≡ true

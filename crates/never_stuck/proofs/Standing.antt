@@ -2,7 +2,6 @@
 use Rattle.std.proofs.Common.{◌≡◌, ℕ, suc, ◌<◌, ◌⊎◌, true, false, List, length, Option, Some, option_and_then, option_map, unwrap_or, slice_get, sym, ◌∙◌, inl, inr, subst, ap, arith}
 use Rattle.std.proofs.lemmas.Bool.{cases_lt, false≢true}
 use Rattle.std.proofs.lemmas.Option.{same_Some, slice_get_cases}
-use Rattle.std.proofs.lemmas.List.Elements.{All-contains}
 use Rattle.scev_base.specs.declared.ids.BlockId.{BlockId}
 use Rattle.scev_base.specs.declared.ids.ValueId.{ValueId}
 use Rattle.ir_model.specs.declared.op.Op.{Op}
@@ -12,20 +11,17 @@ use Rattle.ir_model.specs.declared.function.Block.{Block}
 use Rattle.ir_model.specs.declared.function.Function.{Function}
 use Rattle.ir_model.specs.declared.signature.Signatures.{Signatures}
 use Rattle.ir_model.specs.Places.{place_of}
-use Rattle.ir_model.specs.Shapes.{MayHaveResult, instructions, block_of, operands, is_terminator, is_phi}
+use Rattle.ir_model.specs.Shapes.{MayHaveResult, block_of, operands, is_terminator, is_phi}
 use Rattle.ir_model.specs.WellMade.{IsResultOf}
 use Rattle.ir_rules.specs.Uses.{size_of, HasPassed, UsesAreDefined}
 use Rattle.ir_meaning.specs.State.{State}
 use Rattle.ir_meaning.specs.Step.{instr_at}
 use Rattle.ir_meaning.specs.Run.{GivesTo}
-use Rattle.never_stuck.specs.NeverStuck.{IsBuiltOp, IsBuilt}
 use Rattle.never_stuck.proofs.Sound.{Holds, HoldsOperands, StandsIn, Sound}
 use Rattle.ir_model.specs.WellMade.{IsWellMade}
 use Rattle.ir_rules.specs.Accepted.{IsAccepted}
 use Rattle.never_stuck.proofs.Accepted.{facts_at, last_at, no_late_phi}
 use Rattle.never_stuck.proofs.DefinedOnce.{given_there}
-use Rattle.never_stuck.proofs.Accepted.{block_in}
-use Rattle.never_stuck.proofs.Elements.{contains_at, flat_map_has}
 use Rattle.never_stuck.proofs.Passed.{use_passed, operand_use}
 
 pub some_within : {X : Type 0} (xs : List X) (k : ℕ) → k < length xs → (x : X) × (slice_get xs k ≡ Some x)
@@ -41,14 +37,6 @@ ends_without (Store kind value to) last may = may
 ends_without _ last may = false≢true (sym may ∙ last)
 
 module _ (signatures : Signatures) (f : Function) (made : IsWellMade f) (accepted : IsAccepted signatures f) where
-  -- an instruction of a built function is built
-  pub built_at : IsBuilt f → (b i : ℕ) (block : Block) (instr : Instr) → StandsIn f b i block instr
-      → IsBuiltOp instr.op
-  built_at built b i block instr stands =
-      All-contains (λ (one : Instr). IsBuiltOp one.op) (instructions f.blocks) instr built
-      (flat_map_has (λ (one : Block). one.instrs) f.blocks block instr (block_in f b block stands.block).0
-      (contains_at block.instrs i instr stands.instr))
-
   module _ (s : State) (sound : Sound f s) where
     pub stands_at : (instr : Instr) × StandsIn f s.block s.place sound.block instr
     stands_at =

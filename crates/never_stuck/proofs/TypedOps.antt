@@ -25,20 +25,20 @@ use Rattle.ir_model.specs.declared.signature.Signatures.{Signatures}
 use Rattle.ir_model.specs.Callees.{min_max_named, is_min_max}
 use Rattle.ir_model.specs.Defined.{given_type}
 use Rattle.ir_model.specs.Kinds.{IsScalar}
-use Rattle.ir_model.specs.Shapes.{operands, targets, is_terminator, is_phi}
+use Rattle.ir_model.specs.Shapes.{operands, targets, is_terminator}
 use Rattle.ir_model.specs.WellMade.{IsFormed}
 use Rattle.ir_rules.specs.Types.{kind_of, same_type, fits, is_int, at_type, wanted, operands_fit, types_agree, types_fit, is_wide, converts, widths_fit}
 use Rattle.ir_rules.specs.Values.{misuses_pointer, same_types, kinds_of, is_min_max_of, call_fits}
 use Rattle.ir_meaning.specs.declared.value.Value.{Value}
 use Rattle.ir_meaning.specs.declared.value.Value.TheVariants as value
-use Rattle.ir_meaning.specs.declared.phase.Phase.{Phase}
-use Rattle.ir_meaning.specs.declared.phase.Phase.TheVariants as phase
+use Rattle.ir_meaning.specs.Phases.{Phase}
+use Rattle.ir_meaning.specs.Phases as phase
 use Rattle.ir_meaning.specs.State.{Registers}
 use Rattle.ir_meaning.specs.Values.{is_of_type}
 use Rattle.ir_meaning.specs.Operands.{operand_value, of_type}
 use Rattle.ir_meaning.specs.Rows.{on_numbers, compared, binary_row, converted, min_max_row, compared_pointers}
-use Rattle.ir_meaning.specs.Step.{Computed, Gives, Fails, with_value, given, arm_value, chosen_arm, called, computed, Way, Enters, Leaves, by_value, branched, case_target, switched, way}
-use Rattle.never_stuck.specs.NeverStuck.{IsBuiltOp}
+use Rattle.ir_meaning.specs.Step.{Computed, Gives, Fails, with_value, given, arm_value, chosen_arm, called, frozen, computed, Way, Enters, Leaves, by_value, branched, case_target, switched, way}
+use Rattle.never_stuck.proofs.Elements.{contains_more}
 use Rattle.never_stuck.proofs.Sound.{Holds, HoldsOperands, Facts}
 use Rattle.never_stuck.proofs.TypedRows.{mod_typed, residue_typed, binary_typed, compared_typed, min_max_typed, pointers_typed, converted_typed}
 
@@ -66,7 +66,7 @@ poison_typed (Array dims w) scalar = absurd scalar
 -- ---- operands
 
 -- The operand has a value of the type.
-abbrev Typed : Registers → ℕ → IrType → Operand → Type 0
+abbrev pub Typed : Registers → ℕ → IrType → Operand → Type 0
 Typed registers n kind value =
     (x : Value) × (operand_value registers n kind value ≡ Some x) × (is_of_type kind x ≡ true)
 
@@ -108,13 +108,13 @@ first_held : (f : Function) (registers : Registers) (value : Operand) (rest : Li
     → HoldsOperands f registers (value ∷ rest) → HoldsIn f registers value
 first_held f registers value rest held v is = held v (0, omega arith, is)
 
-rest_held : (f : Function) (registers : Registers) (value : Operand) (rest : List Operand)
+pub rest_held : (f : Function) (registers : Registers) (value : Operand) (rest : List Operand)
     → HoldsOperands f registers (value ∷ rest) → HoldsOperands f registers rest
 rest_held f registers value rest held v inside = held v (suc inside.0, omega (arith, inside.1), inside.2)
 
-first_typed : (f : Function) (registers : Registers) (n : ℕ) (kind : IrType) (value : Operand) (others : List Operand)
-    (more : Bool) → IsScalar kind → (fits f kind value && more) ≡ true → HoldsOperands f registers (value ∷ others)
-    → Typed registers n kind value
+pub first_typed : (f : Function) (registers : Registers) (n : ℕ) (kind : IrType) (value : Operand)
+    (others : List Operand) (more : Bool) → IsScalar kind → (fits f kind value && more) ≡ true
+    → HoldsOperands f registers (value ∷ others) → Typed registers n kind value
 first_typed f registers n kind value others more scalar fit held =
     let fit' = (and_parts (fits f kind value) more fit).0 in
     operand_typed f registers n kind value scalar fit' (first_held f registers value others held)
@@ -122,7 +122,7 @@ first_typed f registers n kind value others more scalar fit held =
 -- ---- what is computed
 
 -- It gives a value of the type, or its behaviour is undefined.
-abbrev Given : IrType → Computed → Type 0
+abbrev pub Given : IrType → Computed → Type 0
 Given kind outcome =
     ((x : Value) × (outcome ≡ Gives x) × (is_of_type kind x ≡ true)) ⊎ (outcome ≡ Fails phase.Undefined)
 
@@ -299,7 +299,7 @@ arg_typed f registers n w arg rest more others same fit held =
     let stands = subst (λ (kind : IrType). (fits f kind arg.value && more) ≡ true) is fit in
     first_typed f registers n (Int w) arg.value rest more tt stands held
 
-abbrev values_of : List TypedOperand → List Operand
+abbrev pub values_of : List TypedOperand → List Operand
 values_of args = map (λ (typed : TypedOperand). typed.value) args
 
 two_args_given : (f : Function) (registers : Registers) (n w : ℕ) (callee : List ℕ) (args : List TypedOperand)
@@ -346,43 +346,52 @@ call_given signatures f registers n ret callee args is calls fit held =
     let parts = and_parts (is_min_max_of ret callee) (same_types (kinds_of args) (ret ∷ ret ∷ [])) both in
     call_of_kind f registers n ret callee args is parts.0 parts.1 fit held
 
+-- ---- freezes
+
+frozen_typed : (w n : ℕ) (x : Value) → is_of_type (Int w) x ≡ true → is_of_type (Int w) (frozen w n x) ≡ true
+frozen_typed w n value.Poison typed = mod_typed w n
+frozen_typed w n _ typed = typed
+
+freeze_given : (f : Function) (registers : Registers) (n : ℕ) (kind : IrType) (value : Operand) → IsScalar kind
+    → operands_fit f (at_type kind value ∷ []) ≡ true → misuses_pointer (Freeze kind value) ≡ false
+    → HoldsOperands f registers (value ∷ []) → Given kind (computed registers n (Freeze kind value))
+freeze_given f registers n (Int w) value scalar types pointers held =
+    let typed = first_typed f registers n (Int w) value [] true tt types held in
+    with_typed registers n (Int w) (Int w) value (λ x. Gives (frozen w n x)) typed (λ x p.
+    gives_typed (Int w) (frozen w n x) (frozen_typed w n x p))
+freeze_given f registers n Ptr value scalar types pointers held = absurd (true≢false pointers)
+freeze_given f registers n Void value scalar types pointers held = absurd scalar
+freeze_given f registers n (Array dims w) value scalar types pointers held = absurd scalar
+
 -- ---- all operations that are computed
 
-op_given : (signatures : Signatures) (f : Function) (registers : Registers) (n : ℕ) (op : Op) → IsFormed op
+-- whether the operation is computed from its operands alone
+abbrev pub is_computed : Op → Bool
+is_computed (Binary op nuw nsw exact disjoint kind left right) = true
+is_computed (Icmp pred kind left right) = true
+is_computed (Cast op nneg from value to) = true
+is_computed (Select test left right) = true
+is_computed (Freeze kind value) = true
+is_computed (Call ret callee args) = is_min_max callee
+is_computed _ = false
+
+pub computed_typed : (signatures : Signatures) (f : Function) (registers : Registers) (n : ℕ) (op : Op) → IsFormed op
     → types_fit f op ≡ true → widths_fit op ≡ true → misuses_pointer op ≡ false → call_fits signatures op ≡ true
-    → IsBuiltOp op → is_terminator op ≡ false → is_phi op ≡ false → HoldsOperands f registers (operands op)
-    → Given (given_type op) (computed registers n op)
-op_given signatures f registers n (Binary op nuw nsw exact disjoint kind left right) _ types _ _ _ _ _ _ held =
+    → is_computed op ≡ true → HoldsOperands f registers (operands op) → Given (given_type op) (computed registers n op)
+computed_typed signatures f registers n (Binary op nuw nsw exact disjoint kind left right) _ types _ _ _ _ held =
     binary_given f registers n op nuw nsw exact disjoint kind left right types held
-op_given signatures f registers n (Icmp pred kind left right) formed types _ pointers _ _ _ _ held =
+computed_typed signatures f registers n (Icmp pred kind left right) formed types _ pointers _ _ held =
     icmp_given f registers n pred kind left right formed types pointers held
-op_given signatures f registers n (Cast op nneg from value to) _ types widths _ _ _ _ _ held =
+computed_typed signatures f registers n (Cast op nneg from value to) _ types widths _ _ _ held =
     let wider = (and_parts (is_wide from && is_wide to) (converts op from to) widths).1 in
     cast_given f registers n op nneg from to value types wider (leads_to_int op from to wider) held
-op_given signatures f registers n (Select test left right) formed types _ _ _ _ _ _ held =
+computed_typed signatures f registers n (Select test left right) formed types _ _ _ _ held =
     select_given f registers n test left right formed.0 formed.1 types held
-op_given signatures f registers n (Call ret callee args) _ types _ _ calls built _ _ held =
-    call_given signatures f registers n ret callee args built calls types held
-op_given signatures f registers n (Phi kind entries) _ _ _ _ _ _ _ phi _ = absurd (true≢false phi)
-op_given signatures f registers n (Freeze kind value) _ _ _ _ _ built _ _ _ = absurd built
-op_given signatures f registers n (Alloca kind) _ _ _ _ _ built _ _ _ = absurd built
-op_given signatures f registers n (Load kind from) _ _ _ _ _ built _ _ _ = absurd built
-op_given signatures f registers n (Store kind value to) _ _ _ _ _ built _ _ _ = absurd built
-op_given signatures f registers n (Gep inbounds kind base indices) _ _ _ _ _ built _ _ _ = absurd built
-op_given signatures f registers n (Jump to) _ _ _ _ _ _ ends _ _ = absurd (true≢false ends)
-op_given signatures f registers n (Branch test there other) _ _ _ _ _ _ ends _ _ = absurd (true≢false ends)
-op_given signatures f registers n (Switch kind value other cases) _ _ _ _ _ _ ends _ _ = absurd (true≢false ends)
-op_given signatures f registers n (Ret value) _ _ _ _ _ _ ends _ _ = absurd (true≢false ends)
-op_given signatures f registers n Unreachable _ _ _ _ _ _ ends _ _ = absurd (true≢false ends)
-
-pub computed_typed : (signatures : Signatures) (f : Function) (b : ℕ) (instr : Instr) (registers : Registers) (n : ℕ)
-    → Facts signatures f b instr → IsBuiltOp instr.op → is_terminator instr.op ≡ false → is_phi instr.op ≡ false
-    → HoldsOperands f registers (operands instr.op)
-    → ((x : Value) × (computed registers n instr.op ≡ Gives x) × (is_of_type (given_type instr.op) x ≡ true))
-    ⊎ (computed registers n instr.op ≡ Fails phase.Undefined)
-computed_typed signatures f b instr registers n facts built ends phi held =
-    op_given signatures f registers n instr.op
-    facts.formed.op facts.types facts.widths facts.pointers facts.calls built ends phi held
+computed_typed signatures f registers n (Freeze kind value) formed types _ pointers _ _ held =
+    freeze_given f registers n kind value formed types pointers held
+computed_typed signatures f registers n (Call ret callee args) _ types _ _ calls computed held =
+    call_given signatures f registers n ret callee args computed calls types held
+computed_typed signatures f registers n _ _ _ _ _ _ computed _ = absurd (false≢true computed)
 
 -- ---- terminators
 
@@ -404,16 +413,13 @@ returned blocks answer = inr (phase.Returned answer, refl, (λ is. absurd cc), (
 contains_first : (x : ℕ) (xs : List ℕ) → Contains (x ∷ xs) x
 contains_first x xs = (0, omega arith, refl)
 
-contains_more : (y x : ℕ) (xs : List ℕ) → Contains xs x → Contains (y ∷ xs) x
-contains_more y x xs inside = (suc inside.0, omega (arith, inside.1), inside.2)
-
 by_typed : (registers : Registers) (n : ℕ) (kind : IrType) (value : Operand) (blocks : List ℕ) (what : Value → Way)
     → Typed registers n kind value → ((x : Value) → Leads blocks (what x))
     → Leads blocks (by_value (operand_value registers n kind value) what)
 by_typed registers n kind value blocks what typed each = rw typed.1 (each typed.0)
 
 one_target : (first : Bool) (there other : ℕ) → Contains (there ∷ other ∷ []) (cond first other there)
-one_target true there other = contains_more there other (other ∷ []) (contains_first other [])
+one_target true there other = contains_more there (other ∷ []) other (contains_first other [])
 one_target false there other = contains_first there (other ∷ [])
 
 branch_leads : (test : Value) (there other : ℕ) → Leads (there ∷ other ∷ []) (branched test there other)
@@ -434,7 +440,7 @@ one_more other to x rest (suc k, less, is) = (suc (suc k), omega (arith, less), 
 
 this_or_later : (first : Bool) (other to x : ℕ) (rest : List ℕ) → Contains (other ∷ rest) x
     → Contains (other ∷ to ∷ rest) (cond first to x)
-this_or_later true other to x rest later = contains_more other to (to ∷ rest) (contains_first to rest)
+this_or_later true other to x rest later = contains_more other (to ∷ rest) to (contains_first to rest)
 this_or_later false other to x rest later = one_more other to x rest later
 
 case_leads : (w : ℕ) (cases : List Case) (other x : ℕ) → Contains (blocks_of other cases) (case_target w cases other x)

@@ -7,12 +7,17 @@ use Rattle.ir_memory.proofs.laws.store_leaves_others.Goals as goal
 
 pub returns-clause-sizes : goal.returns-clause-sizes
 returns-clause-sizes c memory block offset bits value =
-    sizes_stay memory block offset (byte_count bits) (stored_as (byte_count bits) value) (length-stored_as (byte_count bits) value)
+    let count = byte_count bits in
+    sizes_stay memory block offset count (stored_as count value) (length-stored_as count value)
 
 pub returns-clause-bytes : goal.returns-clause-bytes
 returns-clause-bytes c memory block offset bits value =
-    bytes_stay memory block offset (byte_count bits) (stored_as (byte_count bits) value) (length-stored_as (byte_count bits) value)
+    let count = byte_count bits in
+    bytes_stay memory block offset count (stored_as count value) (length-stored_as count value)
 
 pub returns-clause-loads : goal.returns-clause-loads
 returns-clause-loads c memory block offset bits value inside other place width choice apart =
-    ap (λ (bytes : List Byte). loaded_from bytes width choice) (bytes_stay memory block offset (byte_count bits) (stored_as (byte_count bits) value) (length-stored_as (byte_count bits) value) inside other place (byte_count width) apart)
+    let count = byte_count bits in
+    let same = length-stored_as count value in
+    ap (λ (bytes : List Byte). loaded_from bytes width choice)
+    (bytes_stay memory block offset count (stored_as count value) same inside other place (byte_count width) apart)

@@ -3,5 +3,5 @@ use Rattle.never_stuck.proofs.laws.no_run_is_stuck.Goals as goal
 
 pub returns : goal.returns
 returns c =
-    λ signatures f made accepted built.
-    never_stuck signatures f made accepted accepted.uses built
+    λ signatures f made accepted.
+    never_stuck signatures f made accepted accepted.uses

@@ -1,0 +1,9 @@
+pub mod ListPlaces
+pub mod StepShape
+pub mod RunInvariants
+pub mod Trails
+pub mod RegisterChanges
+pub mod LeadingPhis
+pub mod ThinBlocks
+pub mod RefinementLaws
+pub mod RefinementComposes

@@ -1,0 +1,12 @@
+pub mod Values
+pub mod Phases
+pub mod State
+pub mod Operands
+pub mod Rows
+pub mod Effects
+pub mod Accesses
+pub mod Calls
+pub mod Step
+pub mod Run
+pub mod Refinement
+pub mod Thin
