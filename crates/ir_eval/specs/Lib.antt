@@ -1,0 +1,5 @@
+pub mod Globals
+pub mod Parts
+pub mod Arguments
+pub mod Begun
+pub mod Outcome

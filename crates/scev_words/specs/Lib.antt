@@ -1,0 +1,4 @@
+pub mod Modes
+pub mod Found
+pub mod Said
+pub mod SaidBy
