@@ -1,7 +1,8 @@
 //! A call of the tool over objects in memory.
 
 use scev_outside::{MemorySink, MemorySource};
-use scev_tool::{Status, Word, run};
+use scev_tool::{Status, run};
+use scev_words::Word;
 use std::alloc::{AllocError, Global};
 
 /// Room for all that a row writes, in bytes.
@@ -70,6 +71,50 @@ pub fn printed(alloc: Global, input: &str, text: &str) -> Result<bool, AllocErro
 /// Whether `print` over the input refuses it with this line, and writes nothing else.
 pub fn refused(alloc: Global, input: &str, line: &str) -> Result<bool, AllocError> {
     let outcome = print(alloc, input.as_bytes())?;
+    let mut wanted = Vec::from_slice(alloc, line.as_bytes())?;
+    wanted.push(b'\n')?;
+    Ok(
+        outcome.status.code() == 3
+            && outcome.out.is_empty()
+            && outcome.err.as_slice() == wanted.as_slice(),
+    )
+}
+
+/// Whether the words over the input write this text, and nothing else.
+pub fn evaluated(
+    alloc: Global,
+    input: &str,
+    words: &[&str],
+    text: &str,
+) -> Result<bool, AllocError> {
+    let outcome = call(
+        alloc,
+        words,
+        source(alloc, input.as_bytes())?,
+        sink(alloc)?,
+        sink(alloc)?,
+    )?;
+    Ok(
+        outcome.status == Status::Done
+            && outcome.out.as_slice() == text.as_bytes()
+            && outcome.err.is_empty(),
+    )
+}
+
+/// Whether the words over the input are refused with this line, and nothing else is written.
+pub fn not_evaluated(
+    alloc: Global,
+    input: &str,
+    words: &[&str],
+    line: &str,
+) -> Result<bool, AllocError> {
+    let outcome = call(
+        alloc,
+        words,
+        source(alloc, input.as_bytes())?,
+        sink(alloc)?,
+        sink(alloc)?,
+    )?;
     let mut wanted = Vec::from_slice(alloc, line.as_bytes())?;
     wanted.push(b'\n')?;
     Ok(

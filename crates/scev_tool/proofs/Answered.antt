@@ -14,8 +14,6 @@ use Rattle.ir_reader.proofs.OneName.{one_number_and_place, not_both}
 use Rattle.scev_outside.specs.Faults.{Rose}
 use Rattle.scev_tool.specs.declared.status.Status.{Status}
 use Rattle.scev_tool.specs.declared.status.Status.TheVariants as status
-use Rattle.scev_tool.specs.declared.mode.Mode.{Mode}
-use Rattle.scev_tool.specs.declared.mode.Mode.TheVariants as mode
 use Rattle.ir_accept.specs.Line.{fault_text}
 use Rattle.scev_tool.specs.Message.{IsOwnLine}
 use Rattle.scev_tool.specs.Status.{Refuses}
