@@ -4,6 +4,7 @@ pub mod FunctionIsNumbered
 pub mod ItemsAreNumbered
 pub mod KeyNames
 pub mod KindLemmas
+pub mod KnownLexemes
 pub mod Passing
 pub mod OneMention
 pub mod Plain

@@ -1,7 +1,6 @@
 -- Texts with no escape in them.
-use Rattle.std.proofs.Common.{◌≡◌, ℕ, zero, suc, ◌-◌, Bool, true, false, cond, ◌||◌, ◌==◌, List, [], ◌∷◌, ◌++◌, length, take, drop, map, Some, None, slice_get, refl, sym, ap}
-use Rattle.std.specs.Option.{option_map}
-use Rattle.std.proofs.lemmas.Option.{none-some, same_Some}
+use Rattle.std.proofs.Common.{◌≡◌, ℕ, zero, suc, ◌-◌, Bool, true, false, cond, ◌||◌, ◌==◌, List, [], ◌∷◌, length, take, drop, Some, None, refl, ap}
+use Rattle.std.proofs.lemmas.Option.{none-some}
 use Rattle.ir_text.specs.Written.{unescaped}
 use Rattle.ir_text.specs.Said.{inner_text}
 use Rattle.ir_names.specs.Meant.{has_escape, meant}
@@ -39,10 +38,3 @@ plain_inner written e = go (has_escape written) refl e
     go true has f = absurd (none-some _ f)
     go false has f = plain (inner_text written)
         (plain_take (length written - 2) (drop 1 written) (plain_drop 1 written has))
-
--- One more thing of a list that a map is made of.
-pub map_more : {A B : Type 0} (f : A → B) (xs : List A) (at : ℕ) (y : B) → option_map f (slice_get xs at) ≡ Some y
-    → map f (take at xs) ++ y ∷ [] ≡ map f (take (suc at) xs)
-map_more f [] at y e = absurd (none-some _ e)
-map_more f (x ∷ xs) zero y e = ap (λ z. z ∷ []) (sym (same_Some _ _ e))
-map_more f (x ∷ xs) (suc at) y e = ap (λ zs. f x ∷ zs) (map_more f xs at y e)

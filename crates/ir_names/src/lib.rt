@@ -5,6 +5,7 @@ mod function;
 mod globals;
 mod key;
 mod lists;
+mod meanings;
 mod module;
 mod names;
 mod operands;

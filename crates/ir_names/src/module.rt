@@ -3,17 +3,17 @@
 ghost use Rattle.std.specs.Prelude.{◌≡◌, [], ◌∷◌, map, IfOk};
 ghost use Rattle.std.specs.List.{flat_map};
 ghost use Rattle.ir_grammar.specs.Numbering.{defined_by, IsNumberedModule};
-ghost use Rattle.ir_lex.specs.Tokenized.{lexemes};
 ghost use Rattle.ir_parts.specs.Places.{draft_of};
-ghost use Rattle.ir_names.specs.Meant.{meant_of};
+ghost use Rattle.ir_names.specs.Meant.{AreMeanings};
 ghost use Rattle.ir_names.specs.Whole.{ItemNumbered, ItemsNumbered};
 
 use crate::function::function;
 use crate::globals::Globals;
 use crate::lists::taken_reversed;
+use crate::meanings::Meanings;
 use crate::names::Names;
 use crate::seen::Seen;
-use crate::spoken::{Spoken, meant_texts};
+use crate::spoken::Spoken;
 use ir_lex::Tokens;
 use ir_model::{Item, Module, Text};
 use sqlite_items::Items;
@@ -27,15 +27,9 @@ pub fn numbered(
 ) -> Result<Module, AllocError>
     ensures { IfOk result (λ m. IsNumberedModule (map (draft_of tokens.now) items) m) }
 {
-    let meant = meant_texts(alloc, tokens)?;
+    let meanings = Meanings::of(alloc, tokens)?;
     let defined = defined_names(alloc, items.as_slice())?;
-    let globals = global_names(
-        alloc,
-        tokens,
-        meant.as_slice(),
-        defined.as_slice(),
-        &mut items,
-    )?;
+    let globals = global_names(alloc, tokens, &meanings, defined.as_slice(), &mut items)?;
     Ok(Module { items, globals })
 }
 
@@ -43,14 +37,14 @@ pub fn numbered(
 fn global_names<'a>(
     alloc: Global,
     tokens: &'a Tokens<'_>,
-    meant: &'a [Option<Text>],
+    meanings: &'a Meanings,
     defined: &'a [Text],
     items: &mut Items<Item>,
 ) -> Result<Items<Text>, AllocError>
-    requires { meant.now ≡ map meant_of (lexemes tokens.now) }
+    requires { AreMeanings meanings.now tokens.now }
     ensures { IfOk result (λ names. ItemsNumbered tokens.now defined.now names items.old items.new) }
 {
-    let spoken = Spoken::new(tokens, meant);
+    let spoken = Spoken::new(tokens, meanings);
     let globals = Globals::new(alloc, defined)?;
     let globals = all_items(alloc, &spoken, globals, items)?;
     globals.names(alloc)

@@ -1,48 +1,46 @@
 //! What the names of tokens say.
 
-ghost use Rattle.std.specs.Prelude.{◌≡◌, ◌<◌, map, IfOk, slice_get, Some, MatchOption, None, length};
+ghost use Rattle.std.specs.Prelude.{◌≡◌, IfOk, slice_get, Some, MatchOption, None};
 ghost use Rattle.std.specs.Option.{option_map, option_copied};
 ghost use Rattle.ir_text.specs.Said.{said_local, said_label, said_global, is_local_kind, is_label_kind, is_global_kind};
 ghost use Rattle.ir_lex.specs.Tokenized.{lexemes};
 ghost use Rattle.ir_parts.specs.Places.{said_at};
 ghost use Rattle.ir_names.specs.Keys.{name_of_key};
-ghost use Rattle.ir_names.specs.Meant.{meant_of, written_of};
+ghost use Rattle.ir_names.specs.Meant.{meant_of, AreMeanings};
 
 use crate::key::Key;
-use crate::written::{meant, said, said_global};
+use crate::meanings::{Meanings, is_label};
+use crate::written::{said, said_global};
 use ir_lex::{TokenKind, Tokens};
-use ir_model::Text;
 use ir_parts::{before_last, behind_first};
-use sqlite_items::Items;
-use std::alloc::{AllocError, Global};
+use std::alloc::AllocError;
 use std::marker::Model;
 
 /// The tokens of a module, with what the escapes in their names mean. Contracts see the tokens.
 #[derive(Drop)]
 pub struct Spoken<'a, 't> {
     tokens: &'a Tokens<'t>,
-    meant: &'a [Option<Text>],
+    meanings: &'a Meanings,
 }
 
 impl<'a, 't> Model for Spoken<'a, 't> {
-    ghost use Rattle.std.specs.Prelude.{◌≡◌, map};
-    ghost use Rattle.ir_lex.specs.Tokenized.{Tokenized, lexemes};
-    ghost use Rattle.ir_names.specs.Meant.{meant_of};
+    ghost use Rattle.ir_lex.specs.Tokenized.{Tokenized};
+    ghost use Rattle.ir_names.specs.Meant.{AreMeanings};
 
     ghost Value = { Tokenized };
 
     ghost view = { λ s. s.tokens.now };
 
-    ghost invariant = { λ s. s.meant.now ≡ map meant_of (lexemes s.tokens.now) };
+    ghost invariant = { λ s. AreMeanings s.meanings.now s.tokens.now };
 }
 
 impl<'a, 't> Spoken<'a, 't> {
     /// Tokens with what the escapes in their names mean.
-    pub fn new(tokens: &'a Tokens<'t>, meant: &'a [Option<Text>]) -> Spoken<'a, 't>
-        requires { meant.now ≡ map meant_of (lexemes tokens.now) }
+    pub fn new(tokens: &'a Tokens<'t>, meanings: &'a Meanings) -> Spoken<'a, 't>
+        requires { AreMeanings meanings.now tokens.now }
         ensures { result ≡ tokens.now }
     {
-        Spoken { tokens, meant }
+        Spoken { tokens, meanings }
     }
 
     /// What `%name` at a position says.
@@ -94,11 +92,10 @@ impl<'a, 't> Spoken<'a, 't> {
         let place = at as usize;
         let token = self.tokens.get(place)?;
         let text = self.tokens.text(place)?;
-        let known = self.meant.get(place)?;
         Some(Found {
             kind: token.kind,
             text,
-            known: bytes_of(known),
+            known: self.meanings.at(place),
         })
     }
 }
@@ -111,57 +108,10 @@ struct Found<'a> {
     known: Option<&'a [u8]>,
 }
 
-/// What the escapes in the names of tokens mean.
-pub fn meant_texts(alloc: Global, tokens: &Tokens<'_>) -> Result<Items<Option<Text>>, AllocError>
-    ensures { IfOk result (λ texts. texts ≡ map meant_of (lexemes tokens.now)) }
-{
-    let mut texts = Items::new(alloc);
-    for at in 0..tokens.len() {
-        texts.push(meant_at(alloc, tokens, at)?)?;
-    }
-    Ok(texts)
-}
-
-fn meant_at(alloc: Global, tokens: &Tokens<'_>, at: usize) -> Result<Option<Text>, AllocError>
-    requires { at < length tokens.now.tokens }
-    ensures { IfOk result (λ bytes. option_map meant_of (slice_get (lexemes tokens.now) at) ≡ Some bytes) }
-{
-    match (tokens.get(at), tokens.text(at)) {
-        (Some(token), Some(text)) => meant(alloc, written_of(token.kind, text)),
-        _ => Ok(None),
-    }
-}
-
-// A name behind its sigil, or before the `:` of a label.
-fn written_of(kind: TokenKind, text: &[u8]) -> &[u8]
-    ensures { result.now ≡ written_of (record { kind = kind; text = text.now }) }
-{
-    if is_label(kind) {
-        before_last(text)
-    } else {
-        behind_first(text)
-    }
-}
-
-fn bytes_of(text: &Option<Text>) -> Option<&[u8]>
-    ensures { option_copied result ≡ text.now }
-{
-    match text {
-        Some(text) => Some(text.as_slice()),
-        None => None,
-    }
-}
-
 fn is_local(kind: TokenKind) -> bool
     ensures { result ≡ is_local_kind kind }
 {
     matches!(kind, TokenKind::Local)
-}
-
-fn is_label(kind: TokenKind) -> bool
-    ensures { result ≡ is_label_kind kind }
-{
-    matches!(kind, TokenKind::Label)
 }
 
 fn is_global(kind: TokenKind) -> bool
