@@ -4,7 +4,6 @@ ghost use Rattle.std.specs.Prelude.{◌≡◌, [], ◌∷◌, Ok, None, IfOk, If
 ghost use Rattle.std.specs.Option.{option_copied, option_map};
 ghost use Rattle.ir_model.specs.WellMade.{IsWellMade, HaveIds, AreWellMade};
 ghost use Rattle.ir_rules.specs.Rules.{first_item_broken};
-ghost use Rattle.ir_check.specs.Shaped.{IsShaped};
 ghost use Rattle.ir_rules.specs.Accepted.{body_of, IsAccepted, IsBrokenAt, IsAcceptedModule, IsFault};
 
 use flow_graph::EntryWalks;
@@ -115,7 +114,6 @@ fn function_fault<'m>(
 
 /// Where a function of the right shape breaks the rule on uses.
 fn use_fault(alloc: Global, shaped: &Shaped<'_>) -> Result<Option<(Rule, Place)>, AllocError>
-    requires { IsShaped shaped.now.signatures shaped.now.function }
     ensures accepted { result ≡ Ok None → IsAccepted shaped.now.signatures shaped.now.function }
     ensures refused { IfOk result (λ found. IfSome found
         (λ fault. IsBrokenAt shaped.now.signatures shaped.now.function fault.0 fault.1)) }

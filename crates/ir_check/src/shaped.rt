@@ -33,7 +33,9 @@ impl<'m> Model for Shaped<'m> {
 impl<'m> Shaped<'m> {
     /// The function.
     pub fn function(&self) -> &'m Function
-        ensures { result.now ≡ self.now.function }
+        ensures value { result.now ≡ self.now.function }
+        ensures well_made { IsWellMade result.now }
+        ensures shape { first_broken self.now.signatures result.now ≡ None }
     {
         self.function
     }
