@@ -1,5 +1,6 @@
 -- The value of {first,+,step} at each turn of its loop.
-use Rattle.std.specs.Prelude.{◌≡◌, ℕ, zero, suc, ◌+◌, ◌*◌, ◌%◌, ◌<◌, ◌^◌, ◌==◌, if◌then◌else◌, [], ◌∷◌, Bool, true, false, Option, Some, refl}
+use Rattle.std.specs.Prelude.{◌≡◌, ℕ, zero, suc, ◌+◌, ◌*◌, ◌%◌, ◌<◌, ◌^◌, ◌==◌, if◌then◌else◌, [], ◌∷◌, Bool, true}
+use Rattle.std.specs.Prelude.{false, Option, Some, refl}
 use Rattle.std.proofs.Common.{ap, sym, ◌∙◌, arith}
 use Rattle.std.proofs.lemmas.Bool.{eqb-true}
 use Rattle.std.proofs.Math.Nat.{mod-eq_of_lt, mod-mod, mod-add-mod, add-mod-mod, one-mul, mul-one, add-zero, zero-mul}
@@ -13,11 +14,13 @@ one_term x m = rw (one-mul, mod-mod, add-zero, mod-mod)
 one_atom : (x m : ℕ) → (x % m * 1 % m * 1 % m + 0) % m ≡ x % m
 one_atom x m = simp (add-zero, mul-one, mod-mod)
 
-constant_by : (held : ℕ → Option ℕ) (turns : ℕ → ℕ) (w n : ℕ) (b : Bool) → (n % 2 ^ w == 0) ≡ b → tree_value held turns (if b then polynomial w no_terms else polynomial w (term no_factors (n % 2 ^ w) no_terms)) ≡ Some (n % 2 ^ w)
+constant_by : (held : ℕ → Option ℕ) (turns : ℕ → ℕ) (w n : ℕ) (b : Bool) → (n % 2 ^ w == 0) ≡ b
+    → tree_value held turns (if b then polynomial w no_terms else polynomial w (term no_factors (n % 2 ^ w) no_terms)) ≡ Some (n % 2 ^ w)
 constant_by held turns w n true e = ap (λ (k : ℕ). Some k) (sym (eqb-true (n % 2 ^ w) 0 e))
 constant_by held turns w n false e = ap (λ (k : ℕ). Some k) (one_term n (2 ^ w))
 
-pub constant_value : (held : ℕ → Option ℕ) (turns : ℕ → ℕ) (w n : ℕ) → tree_value held turns (constant w n) ≡ Some (n % 2 ^ w)
+pub constant_value : (held : ℕ → Option ℕ) (turns : ℕ → ℕ) (w n : ℕ)
+    → tree_value held turns (constant w n) ≡ Some (n % 2 ^ w)
 constant_value held turns w n = constant_by held turns w n (n % 2 ^ w == 0) refl
 
 iterated_alone : {A : Type 0} (add : A → A → A) (t : ℕ) (x : A) → iterated add t x [] ≡ x
@@ -35,14 +38,16 @@ next_turn first step t m =
     let same : first + t * step + step ≡ first + suc t * step = omega arith in
     mod-add-mod (first + t * step) m step ∙ ap (λ (k : ℕ). k % m) same
 
-iterated_at : (w t first step : ℕ) → iterated (sum w) t (Some (first % 2 ^ w)) (Some (step % 2 ^ w) ∷ []) ≡ Some ((first + t * step) % 2 ^ w)
+iterated_at : (w t first step : ℕ)
+    → iterated (sum w) t (Some (first % 2 ^ w)) (Some (step % 2 ^ w) ∷ []) ≡ Some ((first + t * step) % 2 ^ w)
 unfolding iterated
 iterated_at w zero first step =
     ap (λ (k : ℕ). Some (k % 2 ^ w)) (sym (rw (zero-mul, add-zero)))
 iterated_at w (suc t) first step =
     rw (iterated_at w t first step, iterated_alone (sum w) t (Some (step % 2 ^ w))) (ap (λ (k : ℕ). Some k) (add-mod-mod ((first + t * step) % 2 ^ w) step (2 ^ w) ∙ next_turn first step t (2 ^ w)))
 
-pub affine_value : (held : ℕ → Option ℕ) (turns : ℕ → ℕ) (w k first step : ℕ) → tree_value held turns (affine w k first step) ≡ Some ((first + turns k * step) % 2 ^ w)
+pub affine_value : (held : ℕ → Option ℕ) (turns : ℕ → ℕ) (w k first step : ℕ)
+    → tree_value held turns (affine w k first step) ≡ Some ((first + turns k * step) % 2 ^ w)
 affine_value held turns w k first step =
     rw
     (constant_value held turns w first, constant_value held turns w step, iterated_at w (turns k) first step)

@@ -17,7 +17,9 @@ IsBeside p left right other =
     ((left ≡ operand.Reg (record { 0 = p })) × (right ≡ other)) ⊎ ((left ≡ other) × (right ≡ operand.Reg (record { 0 = p })))
 
 -- an `add` whose other operand is no numeral increments nothing
-numeral_beside : (p n : ℕ) (nuw nsw exact disjoint : Bool) (kind : IrType) (left right other : Operand) → IsBeside p left right other → Increments p n (Binary binary.Add nuw nsw exact disjoint kind left right) → IsNumeral n other
+numeral_beside : (p n : ℕ) (nuw nsw exact disjoint : Bool) (kind : IrType) (left right other : Operand)
+    → IsBeside p left right other → Increments p n (Binary binary.Add nuw nsw exact disjoint kind left right)
+    → IsNumeral n other
 numeral_beside p n nuw nsw exact disjoint kind left right other (inl h) k =
     elim k.1 [
       | inl x ↦ subst (IsNumeral n) h.1 x.1
@@ -29,7 +31,9 @@ numeral_beside p n nuw nsw exact disjoint kind left right other (inr h) k =
       | inr x ↦ subst (IsNumeral n) h.0 x.0
     ]
 
-pub no_increment : (p : ℕ) (op : Op) (what : BinOp) (nuw nsw exact disjoint : Bool) (kind : IrType) (left right other : Operand) (o : Option ℕ) → op ≡ Binary what nuw nsw exact disjoint kind left right → what ≡ binary.Add → IsBeside p left right other → IfNone o ((n : ℕ) → IsNumeral n other → ⊥) → IfNone o ((step : ℕ) → Increments p step op → ⊥)
+pub no_increment : (p : ℕ) (op : Op) (what : BinOp) (nuw nsw exact disjoint : Bool) (kind : IrType) (left right other : Operand) (o : Option ℕ)
+    → op ≡ Binary what nuw nsw exact disjoint kind left right → what ≡ binary.Add → IsBeside p left right other
+    → IfNone o ((n : ℕ) → IsNumeral n other → ⊥) → IfNone o ((step : ℕ) → Increments p step op → ⊥)
 no_increment p op what nuw nsw exact disjoint kind left right other (Some n) is add beside none = tt
 no_increment p op what nuw nsw exact disjoint kind left right other None is add beside none =
     let same : op ≡ Binary binary.Add nuw nsw exact disjoint kind left right = is ∙ ap (λ (b : BinOp). Binary b nuw nsw exact disjoint kind left right) add in

@@ -28,7 +28,8 @@ same_numeral m n (operand.Global g) h k = absurd h
 same_numeral m n operand.Undef h k = absurd h
 same_numeral m n operand.Poison h k = absurd h
 
-pub same_start : (m n : ℕ) (entries : List PhiEntry) → entries ≢ [] → All (λ entry. IsNumeral m entry.value) entries → All (λ entry. IsNumeral n entry.value) entries → m ≡ n
+pub same_start : (m n : ℕ) (entries : List PhiEntry) → entries ≢ [] → All (λ entry. IsNumeral m entry.value) entries
+    → All (λ entry. IsNumeral n entry.value) entries → m ≡ n
 same_start m n [] some h k = absurd (some refl)
 same_start m n (entry ∷ entries) some h k =
     same_numeral m n entry.value (All-head (λ (e : PhiEntry). IsNumeral m e.value) entry entries h) (All-head (λ (e : PhiEntry). IsNumeral n e.value) entry entries k)
@@ -52,7 +53,8 @@ same_step p m n (Binary binary.Add nuw nsw exact disjoint kind left right) h k =
 same_step p m n _ h k = absurd h
 
 -- Where each name is defined once, one instruction of a block gives a register.
-pub one_gives : (f : Function) (b v : ℕ) (block : Block) (x y : Instr) → NamesAreOnce f → block_of f b ≡ Some block → Contains block.instrs x → GivesTo v x → Contains block.instrs y → GivesTo v y → x ≡ y
+pub one_gives : (f : Function) (b v : ℕ) (block : Block) (x y : Instr) → NamesAreOnce f → block_of f b ≡ Some block
+    → Contains block.instrs x → GivesTo v x → Contains block.instrs y → GivesTo v y → x ≡ y
 one_gives f b v block x y names found in_x gives in_y gives' =
     let i = contained_at block.instrs x in_x in
     let j = contained_at block.instrs y in_y in
@@ -60,7 +62,8 @@ one_gives f b v block x y names found in_x gives in_y gives' =
     same_Some x y (sym i.1 ∙ ap (slice_get block.instrs) (sym same) ∙ j.1)
 
 -- so it gives it by one operation
-one_op : (f : Function) (b v : ℕ) (block : Block) (x y : Op) → NamesAreOnce f → block_of f b ≡ Some block → Has block v x → Has block v y → x ≡ y
+one_op : (f : Function) (b v : ℕ) (block : Block) (x y : Op) → NamesAreOnce f → block_of f b ≡ Some block
+    → Has block v x → Has block v y → x ≡ y
 one_op f b v block x y names found h k =
     sym h.3 ∙ ap (λ (instr : Instr). instr.op) (one_gives f b v block h.0 k.0 names found h.1 h.2 k.1 k.2) ∙ k.3
 
@@ -76,12 +79,15 @@ first_register (entry ∷ entries) = register_number entry.value
     register_number (operand.Reg v) = v.0
     register_number _ = 0
 
-pub same_next : (b m n : ℕ) (xs : List PhiEntry) → xs ≡ record { value = operand.Reg (record { 0 = m }); from = record { 0 = b } } ∷ [] → xs ≡ record { value = operand.Reg (record { 0 = n }); from = record { 0 = b } } ∷ [] → m ≡ n
+pub same_next : (b m n : ℕ) (xs : List PhiEntry)
+    → xs ≡ record { value = operand.Reg (record { 0 = m }); from = record { 0 = b } } ∷ []
+    → xs ≡ record { value = operand.Reg (record { 0 = n }); from = record { 0 = b } } ∷ [] → m ≡ n
 unfolding first_register
 same_next b m n xs h k = ap first_register (sym h ∙ k)
 
 -- A phi of a block is a recurrence in one way.
-pub one_recurrence : (f : Function) (b p first step first' step' : ℕ) → IsRecurrence f b p first step → IsRecurrence f b p first' step' → (first ≡ first') × (step ≡ step')
+pub one_recurrence : (f : Function) (b p first step first' step' : ℕ) → IsRecurrence f b p first step
+    → IsRecurrence f b p first' step' → (first ≡ first') × (step ≡ step')
 one_recurrence f b p first step first' step' r q =
     let block : q.block ≡ r.block = same_Some q.block r.block (sym q.is_block ∙ r.is_block) in
     let phi' = subst (λ (one : Block). Has one p (Phi (Int 32) q.entries)) block q.phi in

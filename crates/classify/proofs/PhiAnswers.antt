@@ -46,17 +46,23 @@ one_phi f a b p first step r phi =
     only_in_block f a b p at.0 at'.0 r.block phi.0 r.phi.0 phi.2 r.names r.is_block phi.1 at.1 r.phi.2 at'.1 phi.4
 
 module _ (f : Function) (headers : List BlockId) (p : ℕ) where
-  pub answer_exact : (answer : Option (ℕ × ℕ)) → IfSome answer (Found f headers p) → IfNone answer (NoneFound f headers p) → (b : ℕ) → Contains headers (record { 0 = b }) → IsPhiOf f b p → IsAnswer f b p answer
+  pub answer_exact : (answer : Option (ℕ × ℕ)) → IfSome answer (Found f headers p)
+      → IfNone answer (NoneFound f headers p) → (b : ℕ) → Contains headers (record { 0 = b }) → IsPhiOf f b p
+      → IsAnswer f b p answer
   answer_exact None some none b header phi = λ first step r. none b first step header r
   answer_exact (Some found) some none b header phi =
       subst (λ (a : ℕ). IsRecurrence f a p found.0 found.1) (one_phi f some.0 b p found.0 found.1 some.2 phi) some.2
 
-  pub answer_other : (answer : Option (ℕ × ℕ)) → IfSome answer (Found f headers p) → ((b : ℕ) → Contains headers (record { 0 = b }) → IsPhiOf f b p → ⊥) → answer ≡ None
+  pub answer_other : (answer : Option (ℕ × ℕ)) → IfSome answer (Found f headers p)
+      → ((b : ℕ) → Contains headers (record { 0 = b }) → IsPhiOf f b p → ⊥) → answer ≡ None
   answer_other None some never = refl
   answer_other (Some found) some never =
       absurd (never some.0 some.1 (phi_of f some.0 p found.0 found.1 some.2))
 
-  pub answer_holds : IsThinFunction f → (answer : Option (ℕ × ℕ)) → IfSome answer (Found f headers p) → IfNone answer (NoneFound f headers p) → (first step b k : ℕ) → answer ≡ Some (first, step) → slice_get headers k ≡ Some (record { 0 = b }) → IsPhiOf f b p → IsTrueOf f (map (λ header. one_block header.0) headers) p (affine 32 k first step)
+  pub answer_holds : IsThinFunction f → (answer : Option (ℕ × ℕ)) → IfSome answer (Found f headers p)
+      → IfNone answer (NoneFound f headers p) → (first step b k : ℕ) → answer ≡ Some (first, step)
+      → slice_get headers k ≡ Some (record { 0 = b }) → IsPhiOf f b p
+      → IsTrueOf f (map (λ header. one_block header.0) headers) p (affine 32 k first step)
   answer_holds thin answer some none first step b k is at phi =
       let exact = answer_exact answer some none b (contains_at headers k (record { 0 = b }) at) phi in
       true_by_header f headers b p k first step thin (subst (IsAnswer f b p) is exact) at

@@ -1,5 +1,6 @@
 -- What a recurrence says of the instructions that give its registers, and how it follows from them.
-use Rattle.std.specs.Prelude.{◌≡◌, ◌≢◌, ◌==◌, ℕ, Bool, true, false, not, List, [], ◌∷◌, Option, None, IfSome, IfNone, All, Contains}
+use Rattle.std.specs.Prelude.{◌≡◌, ◌≢◌, ◌==◌, ℕ, Bool, true, false, not, List, [], ◌∷◌, Option, None, IfSome, IfNone}
+use Rattle.std.specs.Prelude.{All, Contains}
 use Rattle.std.specs.Bool.{then_some}
 use Rattle.std.proofs.Common.{ap, sym, subst, ◌∙◌, refl}
 use Rattle.std.proofs.lemmas.Bool.{both_ways, eq-eqb, eqb-true}
@@ -31,11 +32,13 @@ StartsOutside block entries first = All (λ entry. IsNumeral first entry.value) 
 pub none_left : {X : Type 0} (o : Option X) (P : Type 0) → o ≡ None → P → IfNone o P
 none_left o P e h = rw e h
 
-pub some_when : {X : Type 0} (o : Option X) (b : Bool) (x : X) (P : X → Type 0) → o ≡ then_some b x → (b ≡ true → P x) → IfSome o P
+pub some_when : {X : Type 0} (o : Option X) (b : Bool) (x : X) (P : X → Type 0) → o ≡ then_some b x → (b ≡ true → P x)
+    → IfSome o P
 some_when o true x P e h = rw e (h refl)
 some_when o false x P e h = rw e tt
 
-pub none_unless : {X : Type 0} (o : Option X) (b : Bool) (x : X) (P : Type 0) → o ≡ then_some b x → (b ≡ false → P) → IfNone o P
+pub none_unless : {X : Type 0} (o : Option X) (b : Bool) (x : X) (P : Type 0) → o ≡ then_some b x → (b ≡ false → P)
+    → IfNone o P
 none_unless o true x P e h = rw e tt
 none_unless o false x P e h = rw e (h refl)
 
@@ -51,7 +54,8 @@ pub unequal : (a b : ℕ) → true ≡ not (a == b) → a ≡ b → ⊥
 unequal a b h same = both_ways (not (a == b)) (ap not (eq-eqb a b same)) (sym h)
 
 -- what no instruction gives is no recurrence
-pub phi_is_given : (f : Function) (b p first step : ℕ) → IsRecurrence f b p first step → (place : ℕ × ℕ) × IsGivenAt f p place
+pub phi_is_given : (f : Function) (b p first step : ℕ) → IsRecurrence f b p first step
+    → (place : ℕ × ℕ) × IsGivenAt f p place
 phi_is_given f b p first step r = given_at f b p r.block (Phi (Int 32) r.entries) r.is_block r.phi
 
 module _ (f : Function) (p : ℕ) (block : Block) (phi : Instr) (given : IsGivenBy f p block phi) (b first step : ℕ) (r : IsRecurrence f b p first step) where
@@ -105,7 +109,11 @@ module _ (f : Function) (p : ℕ) (block : Block) (phi : Instr) (given : IsGiven
         increments = subst (Increments p step) (sym add_named.2) r.increments
 
 -- the parts of a recurrence make one
-pub recurrence_of : (f : Function) (p : ℕ) (block : Block) (phi : Instr) (entries : List PhiEntry) (next : ℕ) (other : Block) (add : Instr) (first step : ℕ) → NamesAreOnce f → IsGivenBy f p block phi → phi.op ≡ Phi (Int 32) entries → phis block.instrs ≡ leading_phis block.instrs → IsBack block entries next → other_entries block.id.0 entries ≢ [] → StartsOutside block entries first → IsGivenBy f next other add → other.id.0 ≡ block.id.0 → Increments p step add.op → IsRecurrence f block.id.0 p first step
+pub recurrence_of : (f : Function) (p : ℕ) (block : Block) (phi : Instr) (entries : List PhiEntry) (next : ℕ) (other : Block) (add : Instr) (first step : ℕ)
+    → NamesAreOnce f → IsGivenBy f p block phi → phi.op ≡ Phi (Int 32) entries
+    → phis block.instrs ≡ leading_phis block.instrs → IsBack block entries next → other_entries block.id.0 entries ≢ []
+    → StartsOutside block entries first → IsGivenBy f next other add → other.id.0 ≡ block.id.0
+    → Increments p step add.op → IsRecurrence f block.id.0 p first step
 recurrence_of f p block phi entries next other add first step names given is phis_first back outside starts given' id increments =
     let found = found_by_name f block names given.0 in
     let found' = found_by_name f other names given'.0 in

@@ -1,5 +1,6 @@
 -- Places of instructions, one instruction more and one block more.
-use Rattle.std.specs.Prelude.{◌≡◌, ℕ, zero, suc, ◌+◌, ◌<◌, ◌⊎◌, List, [], ◌∷◌, ◌++◌, length, take, get_or, replicate, Option, Some, None, slice_get, slice_set, refl}
+use Rattle.std.specs.Prelude.{◌≡◌, ℕ, zero, suc, ◌+◌, ◌<◌, ◌⊎◌, List, [], ◌∷◌, ◌++◌, length, take, get_or, replicate}
+use Rattle.std.specs.Prelude.{Option, Some, None, slice_get, slice_set, refl}
 use Rattle.std.proofs.Common.{ap, sym, ◌∙◌, subst, arith, inl, inr, length-set}
 use Rattle.std.proofs.lemmas.Bool.{cases_eq}
 use Rattle.std.proofs.lemmas.List.{take_more, length-take-le, get_or-replicate, length-replicate}
@@ -11,7 +12,8 @@ use Rattle.flow_graph.proofs.ListLemmas.{slice_get-set_same, slice_get-set_other
 use Rattle.classify.specs.Places.{placed, IsGivenIn, ArePlaced, ArePlaces}
 
 -- an element of a list with one more is one of the list, or the last one
-pub pushed_at : {X : Type 0} (xs : List X) (x y : X) (k : ℕ) → slice_get (xs ++ x ∷ []) k ≡ Some y → (slice_get xs k ≡ Some y) ⊎ ((k ≡ length xs) × (x ≡ y))
+pub pushed_at : {X : Type 0} (xs : List X) (x y : X) (k : ℕ) → slice_get (xs ++ x ∷ []) k ≡ Some y
+    → (slice_get xs k ≡ Some y) ⊎ ((k ≡ length xs) × (x ≡ y))
 pushed_at [] x y zero at = inr (refl, same_Some x y at)
 pushed_at [] x y (suc k) at = absurd (none-some y at)
 pushed_at (z ∷ zs) x y zero at = inl at
@@ -32,7 +34,8 @@ given_push : (instrs : List Instr) (x : Instr) (v k : ℕ) → IsGivenIn instrs 
 given_push instrs x v k given = (given.0, slice_get-append instrs (x ∷ []) k given.0 given.1, given.2)
 
 -- an instruction that doesn't give the register adds none that does
-not_given_push : (instrs : List Instr) (x : Instr) (v : ℕ) → (x.result ≡ Some (record { 0 = v }) → ⊥) → ((k : ℕ) → IsGivenIn instrs v k → ⊥) → (k : ℕ) → IsGivenIn (instrs ++ x ∷ []) v k → ⊥
+not_given_push : (instrs : List Instr) (x : Instr) (v : ℕ) → (x.result ≡ Some (record { 0 = v }) → ⊥)
+    → ((k : ℕ) → IsGivenIn instrs v k → ⊥) → (k : ℕ) → IsGivenIn (instrs ++ x ∷ []) v k → ⊥
 not_given_push instrs x v other before k given =
     elim (pushed_at instrs x given.0 k given.1) [
       | inl there ↦ before k (given.0, there, given.2)
@@ -46,7 +49,9 @@ abbrev register : ℕ → Option ValueId
 register n = Some (record { 0 = n })
 
 -- one instruction more
-pub ArePlaced_push : (block : ℕ) (instrs : List Instr) (x : Instr) (result : Option ValueId) (old new : List (Option (ℕ × ℕ))) → x.result ≡ result → ArePlaced block instrs old new → ArePlaced block (instrs ++ x ∷ []) old (placed new result (block, length instrs))
+pub ArePlaced_push : (block : ℕ) (instrs : List Instr) (x : Instr) (result : Option ValueId) (old new : List (Option (ℕ × ℕ)))
+    → x.result ≡ result → ArePlaced block instrs old new
+    → ArePlaced block (instrs ++ x ∷ []) old (placed new result (block, length instrs))
 ArePlaced_push block instrs x None old new is to = record {
   count = to.count;
   given = λ v place at.
@@ -91,7 +96,9 @@ ArePlaced_push block instrs x (Some r) old new is to =
     }
 
 -- the step of a walk along the instructions of a block
-pub ArePlaced_more : (block i : ℕ) (instrs : List Instr) (x : Instr) (old new : List (Option (ℕ × ℕ))) → i < length instrs → x ≡ get_or instrs i x → ArePlaced block (take i instrs) old new → ArePlaced block (take (i + 1) instrs) old (placed new x.result (block, i))
+pub ArePlaced_more : (block i : ℕ) (instrs : List Instr) (x : Instr) (old new : List (Option (ℕ × ℕ)))
+    → i < length instrs → x ≡ get_or instrs i x → ArePlaced block (take i instrs) old new
+    → ArePlaced block (take (i + 1) instrs) old (placed new x.result (block, i))
 ArePlaced_more block i instrs x old new within is to =
     let size : length (take i instrs) ≡ i = length-take-le i instrs (omega (arith, within)) in
     let pushed = ArePlaced_push block (take i instrs) x x.result old new refl to in
@@ -112,7 +119,8 @@ ArePlaces_none n = record {
 }
 
 -- one block more
-pub ArePlaces_push : (blocks : List Block) (x : Block) (old new : List (Option (ℕ × ℕ))) → ArePlaces blocks old → ArePlaced (length blocks) x.instrs old new → ArePlaces (blocks ++ x ∷ []) new
+pub ArePlaces_push : (blocks : List Block) (x : Block) (old new : List (Option (ℕ × ℕ))) → ArePlaces blocks old
+    → ArePlaced (length blocks) x.instrs old new → ArePlaces (blocks ++ x ∷ []) new
 ArePlaces_push blocks x old new so to = record {
   given = λ v place at.
       elim (to.given v place at) [
@@ -131,7 +139,9 @@ ArePlaces_push blocks x old new so to = record {
 }
 
 -- the step of a walk along the blocks
-pub ArePlaces_more : (i : ℕ) (blocks : List Block) (x : Block) (old new : List (Option (ℕ × ℕ))) → i < length blocks → x ≡ get_or blocks i x → ArePlaces (take i blocks) old → ArePlaced i x.instrs old new → ArePlaces (take (i + 1) blocks) new
+pub ArePlaces_more : (i : ℕ) (blocks : List Block) (x : Block) (old new : List (Option (ℕ × ℕ))) → i < length blocks
+    → x ≡ get_or blocks i x → ArePlaces (take i blocks) old → ArePlaced i x.instrs old new
+    → ArePlaces (take (i + 1) blocks) new
 ArePlaces_more i blocks x old new within is so to =
     let size : length (take i blocks) ≡ i = length-take-le i blocks (omega (arith, within)) in
     let all : take i blocks ++ x ∷ [] ≡ take (i + 1) blocks = ap (λ (y : Block). take i blocks ++ y ∷ []) is ∙ sym (take_more blocks i x within) in

@@ -1,5 +1,6 @@
 -- The parts of a recurrence, by their places in its block.
-use Rattle.std.specs.Prelude.{◌≡◌, ◌≢◌, ℕ, ◌==◌, List, [], true, not, Option, Some, None, option_map, slice_get, find, All, refl}
+use Rattle.std.specs.Prelude.{◌≡◌, ◌≢◌, ℕ, ◌==◌, List, [], true, not, Option, Some, None, option_map, slice_get, find}
+use Rattle.std.specs.Prelude.{All, refl}
 use Rattle.std.proofs.Common.{ap, sym, subst, ◌∙◌}
 use Rattle.std.proofs.lemmas.Bool.{eqb-true, ne_eqb, not_from_false}
 use Rattle.std.proofs.lemmas.Option.{none-some, same_Some}
@@ -38,11 +39,14 @@ pub record Shape (f : Function) (b p first step : ℕ) : Type 0 where
   pub from_inside : entry_from b entries ≡ Some (operand.Reg (record { 0 = next }))
   pub from_outside : (a : ℕ) (o : Operand) → a ≢ b → entry_from a entries ≡ Some o → IsNumeral first o
 
-mapped : {A B : Type 0} (o : Option A) (g : A → B) (y : B) → option_map g o ≡ Some y → (x : A) × (o ≡ Some x) × (g x ≡ y)
+mapped : {A B : Type 0} (o : Option A) (g : A → B) (y : B) → option_map g o ≡ Some y
+    → (x : A) × (o ≡ Some x) × (g x ≡ y)
 mapped None g y e = absurd (none-some y e)
 mapped (Some x) g y e = (x, refl, same_Some (g x) y e)
 
-outside_numeral : (b first : ℕ) (entries : List PhiEntry) → All (λ entry. IsNumeral first entry.value) (other_entries b entries) → (a : ℕ) (o : Operand) → a ≢ b → entry_from a entries ≡ Some o → IsNumeral first o
+outside_numeral : (b first : ℕ) (entries : List PhiEntry)
+    → All (λ entry. IsNumeral first entry.value) (other_entries b entries) → (a : ℕ) (o : Operand) → a ≢ b
+    → entry_from a entries ≡ Some o → IsNumeral first o
 outside_numeral b first entries starts a o apart e =
     let entry = mapped (find (λ (entry : PhiEntry). entry.from.0 == a) entries) (λ (entry : PhiEntry). entry.value) o e in
     let there = found_there (λ (entry : PhiEntry). entry.from.0 == a) entries entry.0 entry.1 in

@@ -1,9 +1,11 @@
 -- What a tally says of each number: how often the list has it.
-use Rattle.std.specs.Prelude.{◌≡◌, ℕ, zero, suc, ◌+◌, ◌<◌, ◌≤◌, ◌==◌, ◌⊎◌, ◌↔◌, List, [], ◌∷◌, ◌++◌, length, true, cond, get_or, replicate, All, Contains, refl}
+use Rattle.std.specs.Prelude.{◌≡◌, ℕ, zero, suc, ◌+◌, ◌<◌, ◌≤◌, ◌==◌, ◌⊎◌, ◌↔◌, List, [], ◌∷◌, ◌++◌, length, true, cond}
+use Rattle.std.specs.Prelude.{get_or, replicate, All, Contains, refl}
 use Rattle.std.proofs.Common.{ap, sym, ◌∙◌, subst, arith, inl, inr, length-set, get_or-set_same, get_or-set_other}
 use Rattle.std.proofs.lemmas.Bool.{eq-eqb, ne_eqb, cond-true, cond-false, cases_eq}
 use Rattle.std.proofs.lemmas.List.{get_or-replicate, length-replicate}
-use Rattle.std.proofs.lemmas.List.Elements.{All-contains, Contains-append_cases, Contains-append_left, Contains-append_right}
+use Rattle.std.proofs.lemmas.List.Elements.{All-contains, Contains-append_cases, Contains-append_left}
+use Rattle.std.proofs.lemmas.List.Elements.{Contains-append_right}
 use Rattle.std.proofs.lemmas.List.Sums.{sum_by-cons}
 use Rattle.classify.specs.declared.tally.Often.{Often}
 use Rattle.classify.specs.declared.tally.Often.TheVariants.{Never, Once, Twice}
@@ -35,7 +37,9 @@ length_counted tally [] = refl
 length_counted tally (x ∷ xs) =
     length_counted (counted tally x) xs ∙ length-set tally x (more (get_or tally x Never))
 
-often_first : (v x : ℕ) (tally : List Often) (xs : List ℕ) → v < length tally → (x ≡ v) ⊎ (x ≡ v → ⊥) → get_or (all_counted (counted tally x) xs) v Never ≡ again (times v xs) (get_or (counted tally x) v Never) → get_or (all_counted tally (x ∷ xs)) v Never ≡ again (times v (x ∷ xs)) (get_or tally v Never)
+often_first : (v x : ℕ) (tally : List Often) (xs : List ℕ) → v < length tally → (x ≡ v) ⊎ (x ≡ v → ⊥)
+    → get_or (all_counted (counted tally x) xs) v Never ≡ again (times v xs) (get_or (counted tally x) v Never)
+    → get_or (all_counted tally (x ∷ xs)) v Never ≡ again (times v (x ∷ xs)) (get_or tally v Never)
 often_first v x tally xs within (inl e) rest =
     let small : x < length tally = omega (arith, e, within) in
     let here : get_or (counted tally x) v Never ≡ more (get_or tally v Never) = subst (λ (w : ℕ). get_or (counted tally x) w Never ≡ more (get_or tally w Never)) e (get_or-set_same tally x (more (get_or tally x Never)) Never small) in
@@ -45,7 +49,8 @@ often_first v x tally xs within (inr apart) rest =
     rest ∙ ap (again (times v xs)) here ∙ sym (ap (λ (k : ℕ). again k (get_or tally v Never)) (times_other v x xs apart))
 
 -- Each number of the tally stands as often further on as the list has it.
-often_after : (v : ℕ) (tally : List Often) (xs : List ℕ) → v < length tally → get_or (all_counted tally xs) v Never ≡ again (times v xs) (get_or tally v Never)
+often_after : (v : ℕ) (tally : List Often) (xs : List ℕ) → v < length tally
+    → get_or (all_counted tally xs) v Never ≡ again (times v xs) (get_or tally v Never)
 often_after v tally [] within = refl
 often_after v tally (x ∷ xs) within =
     let size : length (counted tally x) ≡ length tally = length-set tally x (more (get_or tally x Never)) in
@@ -59,7 +64,8 @@ pub often_counted : (n v : ℕ) (xs : List ℕ) → v < n → get_or (all_counte
 often_counted n v xs within =
     often_after v (replicate n Never) xs (omega (arith, within, length-replicate n Never)) ∙ ap (again (times v xs)) (get_or-replicate n v Never Never within)
 
-contained_first : (v x k : ℕ) (xs : List ℕ) → k < length (x ∷ xs) → get_or (x ∷ xs) k v ≡ v → (x ≡ v) ⊎ (x ≡ v → ⊥) → (Contains xs v → 1 ≤ times v xs) → 1 ≤ times v (x ∷ xs)
+contained_first : (v x k : ℕ) (xs : List ℕ) → k < length (x ∷ xs) → get_or (x ∷ xs) k v ≡ v → (x ≡ v) ⊎ (x ≡ v → ⊥)
+    → (Contains xs v → 1 ≤ times v xs) → 1 ≤ times v (x ∷ xs)
 contained_first v x k xs within is (inl e) rest = omega (arith, times_same v x xs e)
 contained_first v x zero xs within is (inr apart) rest = absurd (apart is)
 contained_first v x (suc k) xs within is (inr apart) rest =
@@ -106,7 +112,8 @@ IsFineAt defined used v = once_if_any (get_or defined v Never) (get_or used v Ne
 abbrev pub tally_of : ℕ → List ℕ → List Often
 tally_of n xs = all_counted (replicate n Never) xs
 
-fine_at : (n v : ℕ) (defined used : List ℕ) → v < n → once_if_any (get_or (tally_of n defined) v Never) (get_or (tally_of n used) v Never) ≡ once_if_any (often v defined) (often v used)
+fine_at : (n v : ℕ) (defined used : List ℕ) → v < n
+    → once_if_any (get_or (tally_of n defined) v Never) (get_or (tally_of n used) v Never) ≡ once_if_any (often v defined) (often v used)
 fine_at n v defined used within =
     ap (λ (o : Often). once_if_any o (get_or (tally_of n used) v Never)) (often_counted n v defined within) ∙ ap (once_if_any (often v defined)) (often_counted n v used within)
 
@@ -125,7 +132,8 @@ stands v defined used some =
     ]
 
 -- The tallies of what is defined and of what is used tell whether each name is defined once.
-pub AreOnce_tallied : (n : ℕ) (defined used : List ℕ) → All (λ v. v < n) (defined ++ used) → ((v : ℕ) → v < length (tally_of n defined) → IsFineAt (tally_of n defined) (tally_of n used) v) ↔ AreOnce defined used
+pub AreOnce_tallied : (n : ℕ) (defined used : List ℕ) → All (λ v. v < n) (defined ++ used)
+    → ((v : ℕ) → v < length (tally_of n defined) → IsFineAt (tally_of n defined) (tally_of n used) v) ↔ AreOnce defined used
 AreOnce_tallied n defined used small =
     let size : length (tally_of n defined) ≡ n = length_counted (replicate n Never) defined ∙ length-replicate n Never in (
       λ fine v there.
@@ -137,10 +145,12 @@ AreOnce_tallied n defined used small =
     )
 
 -- the same of tallies that are known to be these
-pub AreOnce_counted : (n : ℕ) (defined used : List ℕ) (d u : List Often) → d ≡ tally_of n defined → u ≡ tally_of n used → All (λ v. v < n) (defined ++ used) → ((v : ℕ) → v < length d → IsFineAt d u v) ↔ AreOnce defined used
+pub AreOnce_counted : (n : ℕ) (defined used : List ℕ) (d u : List Often) → d ≡ tally_of n defined → u ≡ tally_of n used
+    → All (λ v. v < n) (defined ++ used) → ((v : ℕ) → v < length d → IsFineAt d u v) ↔ AreOnce defined used
 AreOnce_counted n defined used d u is_defined is_used small =
     rw (is_defined, is_used) (AreOnce_tallied n defined used small)
 
-pub same_bound : (n : ℕ) (defined used : List ℕ) (d u : List Often) → d ≡ tally_of n defined → u ≡ tally_of n used → length d ≡ length u
+pub same_bound : (n : ℕ) (defined used : List ℕ) (d u : List Often) → d ≡ tally_of n defined → u ≡ tally_of n used
+    → length d ≡ length u
 same_bound n defined used d u is_defined is_used =
     rw (is_defined, is_used) (length_counted (replicate n Never) defined ∙ sym (length_counted (replicate n Never) used))

@@ -16,7 +16,8 @@ use Rattle.ir_model.specs.declared.function.Block.{Block}
 use Rattle.ir_model.specs.declared.function.Function.{Function}
 use Rattle.ir_meaning.specs.Thin.{IsThinOperand, IsThinGiving, IsThinEnding, HasResult, AreThinInstrs, IsThinFunction}
 use Rattle.ir_model.specs.Shapes.{targets}
-use Rattle.ir_model.specs.Shapes.{operands, sources, register_of, result_of, instructions, defined_values, used_values, defined_blocks, used_blocks}
+use Rattle.ir_model.specs.Shapes.{operands, sources, register_of, result_of, instructions, defined_values, used_values}
+use Rattle.ir_model.specs.Shapes.{defined_blocks, used_blocks}
 
 abbrev pub AllBelow : ℕ → List ℕ → Type 0
 AllBelow n ids = All (λ id. id < n) ids
@@ -34,7 +35,8 @@ both_below n ids others small rest =
 one_below : (n id : ℕ) → id < n → AllBelow n (id ∷ [])
 one_below n id small = more_below n id [] small (none_below n)
 
-all_below : {X : Type 0} (n : ℕ) (pick : X → List ℕ) (xs : List X) → All (λ x. AllBelow n (pick x)) xs → AllBelow n (flat_map pick xs)
+all_below : {X : Type 0} (n : ℕ) (pick : X → List ℕ) (xs : List X) → All (λ x. AllBelow n (pick x)) xs
+    → AllBelow n (flat_map pick xs)
 all_below n pick [] h = none_below n
 all_below {X} n pick (x ∷ xs) h =
     both_below n (pick x) (flat_map pick xs) (All-head (λ (y : X). AllBelow n (pick y)) x xs h) (all_below n pick xs (All-tail (λ (y : X). AllBelow n (pick y)) x xs h))
@@ -48,7 +50,8 @@ operand_below values _ h = absurd h
 abbrev pub AreBelow : ℕ → ℕ → Op → Type 0
 AreBelow values labels op = AllBelow values (flat_map register_of (operands op)) × AllBelow labels (targets op ++ sources op)
 
-two_below : (values : ℕ) (left right : Operand) → IsThinOperand values left → IsThinOperand values right → AllBelow values (flat_map register_of (left ∷ right ∷ []))
+two_below : (values : ℕ) (left right : Operand) → IsThinOperand values left → IsThinOperand values right
+    → AllBelow values (flat_map register_of (left ∷ right ∷ []))
 two_below values left right l r =
     both_below values (register_of left) (flat_map register_of (right ∷ [])) (operand_below values left l) (both_below values (register_of right) [] (operand_below values right r) (none_below values))
 
@@ -84,7 +87,8 @@ result_below values (Some v) h = one_below values v.0 h
 abbrev pub IsBelow : ℕ → ℕ → Instr → Type 0
 IsBelow values labels instr = AllBelow values (result_of instr.result) × AreBelow values labels instr.op
 
-instrs_below : (values labels : ℕ) (instrs : List Instr) → AreThinInstrs values labels instrs → All (IsBelow values labels) instrs
+instrs_below : (values labels : ℕ) (instrs : List Instr) → AreThinInstrs values labels instrs
+    → All (IsBelow values labels) instrs
 instrs_below values labels [] h = absurd h
 instrs_below values labels (last ∷ []) h =
     All-cons (IsBelow values labels) last [] (subst (λ (r : Option ValueId). AllBelow values (result_of r)) (sym h.0) (none_below values), ending_below values labels last.op h.1) (All-nil (IsBelow values labels))
@@ -94,7 +98,8 @@ instrs_below values labels (instr ∷ next ∷ more) h =
 abbrev pub IsThinBlock : ℕ → ℕ → Block → Type 0
 IsThinBlock values labels block = (block.id.0 < labels) × AreThinInstrs values labels block.instrs
 
-blocks_below : (values labels : ℕ) (blocks : List Block) → All (IsThinBlock values labels) blocks → All (IsBelow values labels) (instructions blocks)
+blocks_below : (values labels : ℕ) (blocks : List Block) → All (IsThinBlock values labels) blocks
+    → All (IsBelow values labels) (instructions blocks)
 blocks_below values labels [] h = All-nil (IsBelow values labels)
 blocks_below values labels (x ∷ xs) h =
     All-append (IsBelow values labels) x.instrs (instructions xs) (instrs_below values labels x.instrs (All-head (IsThinBlock values labels) x xs h).1) (blocks_below values labels xs (All-tail (IsThinBlock values labels) x xs h))

@@ -7,8 +7,9 @@ use Rattle.ir_model.specs.Shapes.{leading_phis}
 use Rattle.classify.specs.Names.{NamesAreOnce}
 use Rattle.classify.specs.Recurrence.{phis}
 
--- whether each name of a function is defined once; for each register of its table the place of an instruction that gives
--- it: the position of the block, and that of the instruction in it; and for each block whether its phis come first
+-- whether each name of a function is defined once; for each register of its table the place of an instruction that
+-- gives it: the position of the block, and that of the instruction in it; and for each block whether its phis come
+-- first
 pub record Found : Type 0 where
   pub once : Bool
   pub places : List (Option (ℕ × ℕ))

@@ -19,7 +19,8 @@ pub record ArePlaced (block : ℕ) (instrs : List Instr) (old new : List (Option
   pub count : length new ≡ length old
   pub given : (v : ℕ) (place : ℕ × ℕ) → slice_get new v ≡ Some (Some place)
       → (slice_get old v ≡ Some (Some place)) ⊎ ((place.0 ≡ block) × IsGivenIn instrs v place.1)
-  pub none : (v : ℕ) → slice_get new v ≡ Some None → (slice_get old v ≡ Some None) × ((k : ℕ) → IsGivenIn instrs v k → ⊥)
+  pub none : (v : ℕ) → slice_get new v ≡ Some None
+      → (slice_get old v ≡ Some None) × ((k : ℕ) → IsGivenIn instrs v k → ⊥)
 
 -- an instruction of a list of blocks gives its result to the register
 abbrev pub IsGivenAmong : List Block → ℕ → ℕ × ℕ → Type 0

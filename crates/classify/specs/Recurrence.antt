@@ -20,7 +20,8 @@ phis instrs = filter (λ instr. is_phi instr.op) instrs
 
 -- Some instruction of the block gives its result to the register by this operation.
 abbrev pub Has : Block → ℕ → Op → Type 0
-Has block v op = (instr : Instr) × Contains block.instrs instr × (instr.result ≡ Some (record { 0 = v })) × (instr.op ≡ op)
+Has block v op = (instr : Instr) × Contains block.instrs instr
+    × (instr.result ≡ Some (record { 0 = v })) × (instr.op ≡ op)
 
 -- A numeral of `i32` with this residue.
 abbrev pub IsNumeral : ℕ → Operand → Type 0
@@ -30,7 +31,8 @@ IsNumeral n _ = ⊥
 -- The operation is the `add` of the register and a numeral with this residue, in either order, with any flags.
 abbrev pub Increments : ℕ → ℕ → Op → Type 0
 Increments p step (Binary binary.Add nuw nsw exact disjoint kind left right) = (kind ≡ Int 32)
-    × (((left ≡ operand.Reg (record { 0 = p })) × IsNumeral step right) ⊎ (IsNumeral step left × (right ≡ operand.Reg (record { 0 = p }))))
+    × (((left ≡ operand.Reg (record { 0 = p })) × IsNumeral step right)
+    ⊎ (IsNumeral step left × (right ≡ operand.Reg (record { 0 = p }))))
 Increments p step _ = ⊥
 
 -- the entries of a phi from a block, and the others
@@ -40,8 +42,9 @@ entries_from b entries = filter (λ entry. entry.from.0 == b) entries
 abbrev pub other_entries : ℕ → List PhiEntry → List PhiEntry
 other_entries b entries = filter (λ entry. not (entry.from.0 == b)) entries
 
--- The register p is a phi of block b that starts at one numeral on every edge from outside, and on the edge from b itself
--- takes a register to which b adds one numeral to p. The function defines each name once, and the phis of b come first.
+-- The register p is a phi of block b that starts at one numeral on every edge from outside, and on the edge from b
+-- itself takes a register to which b adds one numeral to p. The function defines each name once, and the phis of b come
+-- first.
 pub record IsRecurrence (f : Function) (b p first step : ℕ) : Type 0 where
   pub names : NamesAreOnce f
   pub block : Block

@@ -24,7 +24,7 @@ abbrev pub Holds : List Loop → State → ℕ → Tree → Type 0
 Holds loops s v tree = (s.registers v ≡ Some value.Poison)
     ⊎ ((n : ℕ) × (s.registers v ≡ Some (value.Number n)) × (value_at loops s tree ≡ Some n))
 
--- The expression is true of the register: in every run of the function, each time just after the register is defined, it
--- holds poison or the expression's value at that moment.
+-- The expression is true of the register: in every run of the function, each time just after the register is defined,
+-- it holds poison or the expression's value at that moment.
 abbrev pub IsTrueOf : Function → List Loop → ℕ → Tree → Type 0
 IsTrueOf f loops v tree = (r : Run f) → IsFresh f (last f r) v → Holds loops (last f r) v tree

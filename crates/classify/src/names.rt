@@ -3,7 +3,8 @@
 ghost use Rattle.std.specs.Prelude.{◌≡◌, ◌++◌, length, map, flat_map, replicate, IfOk};
 ghost use Rattle.ir_model.specs.Shapes.{targets};
 ghost use Rattle.classify.specs.declared.tally.Often.TheVariants.{Never};
-ghost use Rattle.ir_model.specs.Shapes.{operands, sources, register_of, result_of, defined_values, used_values, defined_blocks, used_blocks};
+ghost use Rattle.ir_model.specs.Shapes.{operands, sources, register_of, result_of, defined_values, used_values};
+ghost use Rattle.ir_model.specs.Shapes.{defined_blocks, used_blocks};
 ghost use Rattle.classify.specs.Tally.{all_counted};
 
 use crate::tally::Tally;

@@ -1,5 +1,6 @@
 -- The names that a function defines: ids that stand in their tables have room, and the rows tell what is defined.
-use Rattle.std.proofs.Common.{◌≡◌, ℕ, ◌==◌, ◌<◌, Bool, true, false, ◌||◌, List, [], ◌∷◌, ◌++◌, map, length, Option, Some, None, slice_get, refl, sym, ap, ◌∙◌, inl, inr, length-set}
+use Rattle.std.proofs.Common.{◌≡◌, ℕ, ◌==◌, ◌<◌, Bool, true, false, ◌||◌, List, [], ◌∷◌, ◌++◌, map, length, Option}
+use Rattle.std.proofs.Common.{Some, None, slice_get, refl, sym, ap, ◌∙◌, inl, inr, length-set}
 use Rattle.std.specs.List.{list_any, flat_map, All}
 use Rattle.std.proofs.lemmas.Bool.{cases_eq, ne_eqb}
 use Rattle.std.proofs.lemmas.List.{length-replicate}
@@ -19,7 +20,8 @@ use Rattle.ir_model.specs.WellMade.{IsInTable, HasIds}
 use Rattle.ir_rules.specs.Names.{same_place, result_place, block_definitions, definitions, duplicate_names}
 use Rattle.ir_check.specs.declared.defined.Defined.{Defined}
 use Rattle.ir_check.specs.declared.defined.Names.TheVariants.{Once, Again}
-use Rattle.ir_check.specs.Definitions.{has_place, with_place, HasRoom, first_again, with_places, HaveRoom, Defines, AreNames}
+use Rattle.ir_check.specs.Definitions.{has_place, with_place, HasRoom, first_again, with_places, HaveRoom, Defines}
+use Rattle.ir_check.specs.Definitions.{AreNames}
 use Rattle.ir_check.proofs.DefinedRows.{Knows-none, again-repeated, has-all, none, or_none}
 
 -- ---- ids that stand in their tables have room

@@ -1,6 +1,7 @@
 -- The places of the instructions that break a rule, where it isn't one on names and looks at one instruction alone; and
 -- what comes of rules without a place.
-use Rattle.std.proofs.Common.{rules, ◌≡◌, ℕ, zero, suc, true, false, List, [], ◌∷◌, Option, Some, None, map, filter, slice_get, drop, refl, sym}
+use Rattle.std.proofs.Common.{rules, ◌≡◌, ℕ, zero, suc, true, false, List, [], ◌∷◌, Option, Some, None, map, filter}
+use Rattle.std.proofs.Common.{slice_get, drop, refl, sym}
 use Rattle.std.proofs.lemmas.Option.{same_Some}
 use Rattle.std.proofs.lemmas.Bool.{both_ways}
 use Rattle.ir_model.specs.declared.function.Function.{Function}

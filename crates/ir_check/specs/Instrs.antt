@@ -7,7 +7,8 @@ use Rattle.ir_model.specs.declared.function.Block.{Block}
 use Rattle.ir_model.specs.declared.function.Function.{Function}
 use Rattle.ir_model.specs.declared.signature.Signatures.{Signatures}
 use Rattle.ir_model.specs.declared.rule.Rule.{Rule}
-use Rattle.ir_model.specs.declared.rule.Rule.TheVariants.{TypeMismatch, LiteralOutOfRange, BadWidth, VoidValue, DuplicateCase, PointerPredicate, CallMismatch, ReturnType}
+use Rattle.ir_model.specs.declared.rule.Rule.TheVariants.{TypeMismatch, LiteralOutOfRange, BadWidth, VoidValue}
+use Rattle.ir_model.specs.declared.rule.Rule.TheVariants.{DuplicateCase, PointerPredicate, CallMismatch, ReturnType}
 use Rattle.ir_model.specs.declared.rule.Place.{Place}
 use Rattle.ir_model.specs.Defined.{given_type}
 use Rattle.ir_model.specs.Shapes.{is_void, targets}

@@ -1,5 +1,7 @@
 -- The arguments that words say fit their parameters, in the memory with their blocks.
-use Rattle.std.proofs.Common.{◌≡◌, ℕ, ◌≤◌, ◌^◌, Bool, true, false, List, [], ◌∷◌, length, Option, Some, None, codes, option_map, option_and_then, IsTrue, refl, subst, inl, inr, ◌⊎◌, if◌then◌else◌, arith, length-append}
+use Rattle.std.proofs.Common.{◌≡◌, ℕ, ◌≤◌, ◌^◌, Bool, true, false, List, [], ◌∷◌, length, Option, Some, None, codes}
+use Rattle.std.proofs.Common.{option_map, option_and_then, IsTrue, refl, subst, inl, inr, ◌⊎◌, if◌then◌else◌, arith}
+use Rattle.std.proofs.Common.{length-append}
 use Rattle.std.specs.Str.{bytes_eq}
 use Rattle.std.proofs.Math.Dec.{ltb, leb}
 use Rattle.std.proofs.lemmas.Bool.{lt-ltb}
@@ -13,7 +15,9 @@ use Rattle.ir_meaning.specs.declared.value.Value.TheVariants as value
 use Rattle.ir_meaning.specs.Values.{fits}
 use Rattle.ir_meaning.specs.Run.{ArgsFit}
 use Rattle.ir_meaning.proofs.RegisterChanges.{from_and_then}
-use Rattle.ir_eval.specs.Arguments.{Argument, Plain, NewBlock, numeral, where_holds, block_most, new_block, number_of_width, pointer_argument, argument_of, argument_value, with_argument, begun}
+use Rattle.ir_eval.specs.Arguments.{Argument, Plain, NewBlock, numeral, where_holds, block_most, new_block}
+use Rattle.ir_eval.specs.Arguments.{number_of_width, pointer_argument, argument_of, argument_value, with_argument}
+use Rattle.ir_eval.specs.Arguments.{begun}
 
 -- ---- one argument
 

@@ -1,5 +1,6 @@
 -- The function that has a name.
-use Rattle.std.proofs.Common.{◌≡◌, ℕ, ◌+◌, ◌<◌, Bool, List, [], ◌++◌, length, get_or, take, drop, flat_map, find, Some, None, Contains, All, IsTrue, refl, sym, ap, ◌∙◌, subst, inl, inr, not}
+use Rattle.std.proofs.Common.{◌≡◌, ℕ, ◌+◌, ◌<◌, Bool, List, [], ◌++◌, length, get_or, take, drop, flat_map, find, Some}
+use Rattle.std.proofs.Common.{None, Contains, All, IsTrue, refl, sym, ap, ◌∙◌, subst, inl, inr, not}
 use Rattle.std.proofs.lemmas.Grind.{flat_map-append}
 use Rattle.std.proofs.lemmas.List.{append-nil, take_more, take-append-drop}
 use Rattle.std.proofs.lemmas.List.Elements.{All-contains, Contains-get_or}
@@ -21,7 +22,8 @@ use Rattle.ir_rules.specs.Spots.{Spot, places_where}
 use Rattle.ir_rules.specs.Types.{is_wide, widths_fit, bad_params}
 use Rattle.ir_meaning.proofs.ListPlaces.{found_there}
 use Rattle.never_stuck.proofs.Accepted.{unbroken, holds_of_unless}
-use Rattle.never_stuck.proofs.Elements.{contains_at, contains_none, contains_cases, append_none, flat_map_none, flat_map_only}
+use Rattle.never_stuck.proofs.Elements.{contains_at, contains_none, contains_cases, append_none, flat_map_none}
+use Rattle.never_stuck.proofs.Elements.{flat_map_only}
 use Rattle.ir_machine.specs.Runnable.{IsRunnable}
 use Rattle.ir_eval.specs.Outcome.{has_name, function_named}
 

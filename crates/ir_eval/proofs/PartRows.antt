@@ -2,7 +2,8 @@
 use Rattle.std.proofs.Common.{◌≡◌, List, ◌++◌, refl, ap, ◌∙◌}
 use mathlib.Core.Former.{Count}
 use Rattle.ir_model.specs.declared.types.IrType.{IrType}
-use Rattle.ir_model.specs.declared.item.Init.{Init, more_of-Init, Row_of-InitPart, end_of-InitPart, more_of-InitPart, items-the_row-InitPart, items_hidden-the_row-InitPart-1}
+use Rattle.ir_model.specs.declared.item.Init.{Init, more_of-Init, Row_of-InitPart, end_of-InitPart, more_of-InitPart}
+use Rattle.ir_model.specs.declared.item.Init.{items-the_row-InitPart, items_hidden-the_row-InitPart-1}
 use Rattle.ir_model.specs.declared.item.Init.TheVariants as init
 use Rattle.ir_model.specs.declared.item.InitPart.{InitPart}
 use Rattle.ir_model.specs.declared.item.Init.TheBlock.{shown-the_row-Init-0}

@@ -1,5 +1,6 @@
 -- What the words for arguments say.
-use Rattle.std.specs.Prelude.{ℕ, ◌^◌, Bool, nat_lt, nat_le, if◌then◌else◌, List, [], ◌∷◌, ◌++◌, length, replicate, Option, Some, None, option_map, option_and_then, codes}
+use Rattle.std.specs.Prelude.{ℕ, ◌^◌, Bool, nat_lt, nat_le, if◌then◌else◌, List, [], ◌∷◌, ◌++◌, length, replicate}
+use Rattle.std.specs.Prelude.{Option, Some, None, option_map, option_and_then, codes}
 use Rattle.std.specs.Str.{bytes_eq}
 use Rattle.eval_request.specs.Numeral.{is_numeral, numeral_value}
 use Rattle.ir_model.specs.declared.types.IrType.{IrType}

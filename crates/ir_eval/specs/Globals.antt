@@ -6,7 +6,8 @@ use Rattle.ir_model.specs.declared.types.IrType.{IrType}
 use Rattle.ir_model.specs.declared.types.IrType.TheVariants.{Int}
 use Rattle.ir_model.specs.declared.op.Operand.{Operand}
 use Rattle.ir_model.specs.declared.op.Operand.TheVariants as operand
-use Rattle.ir_model.specs.declared.item.Init.{Init, Row_of-Init, end_of-Init, more_of-Init, Row_of-InitPart, end_of-InitPart, more_of-InitPart}
+use Rattle.ir_model.specs.declared.item.Init.{Init, Row_of-Init, end_of-Init, more_of-Init, Row_of-InitPart}
+use Rattle.ir_model.specs.declared.item.Init.{end_of-InitPart, more_of-InitPart}
 use Rattle.ir_model.specs.declared.item.Init.TheVariants as init
 use Rattle.ir_model.specs.declared.item.Item.{Item}
 use Rattle.ir_model.specs.declared.item.Item.TheVariants as item

@@ -1,11 +1,13 @@
 -- What the parts of an accepted function are to a machine: of types that it holds, with results in its table, phis
 -- whose entries from one block have one operand, and blocks of which no two have one number.
-use Rattle.std.specs.Prelude.{◌≡◌, ◌≢◌, ℕ, ◌<◌, ◌≤◌, ◌&&◌, nat_le, true, Bool, List, [], ◌∷◌, length, map, flat_map, count_by, Option, Some, None, All, AllPairs, Contains, slice_get, refl}
+use Rattle.std.specs.Prelude.{◌≡◌, ◌≢◌, ℕ, ◌<◌, ◌≤◌, ◌&&◌, nat_le, true, Bool, List, [], ◌∷◌, length, map, flat_map}
+use Rattle.std.specs.Prelude.{count_by, Option, Some, None, All, AllPairs, Contains, slice_get, refl}
 use Rattle.std.specs.List.{list_all}
 use Rattle.std.proofs.Common.{get_or, sym, ◌∙◌, arith}
 use Rattle.std.proofs.lemmas.Bool.{and_parts, leb-true, eq-eqb}
 use Rattle.std.proofs.lemmas.Option.{slice_get-get_or}
-use Rattle.std.proofs.lemmas.List.Elements.{All-contains, All-weaker, Contains-get_or, Contains-append_left, Contains-append_right}
+use Rattle.std.proofs.lemmas.List.Elements.{All-contains, All-weaker, Contains-get_or, Contains-append_left}
+use Rattle.std.proofs.lemmas.List.Elements.{Contains-append_right}
 use Rattle.std.proofs.lemmas.List.Kept.{AllPairs-cons}
 use Rattle.std.proofs.lemmas.List.Sums.{AllPass-from_list_all}
 use Rattle.scev_base.specs.declared.ids.ValueId.{ValueId}
@@ -15,14 +17,16 @@ use Rattle.ir_model.specs.declared.op.Case.{Case}
 use Rattle.ir_model.specs.declared.op.PhiEntry.{PhiEntry}
 use Rattle.ir_model.specs.declared.op.TypedOperand.{TypedOperand}
 use Rattle.ir_model.specs.declared.op.Op.{Op}
-use Rattle.ir_model.specs.declared.op.Op.TheVariants.{Binary, Icmp, Cast, Select, Phi, Freeze, Load, Store, Gep, Call, Switch, Ret}
+use Rattle.ir_model.specs.declared.op.Op.TheVariants.{Binary, Icmp, Cast, Select, Phi, Freeze, Load, Store, Gep, Call}
+use Rattle.ir_model.specs.declared.op.Op.TheVariants.{Switch, Ret}
 use Rattle.ir_model.specs.declared.function.Param.{Param}
 use Rattle.ir_model.specs.declared.function.Instr.{Instr}
 use Rattle.ir_model.specs.declared.function.Block.{Block}
 use Rattle.ir_model.specs.declared.function.Function.{Function}
 use Rattle.ir_model.specs.declared.rule.Place.TheVariants.{BlockAt}
 use Rattle.ir_model.specs.Shapes.{block_of, defined_blocks, leading_phis}
-use Rattle.ir_model.specs.Sites.{Site, DefinesValue, DefinesBlock, result_sites, op_sites, instr_sites, block_sites, function_sites}
+use Rattle.ir_model.specs.Sites.{Site, DefinesValue, DefinesBlock, result_sites, op_sites, instr_sites, block_sites}
+use Rattle.ir_model.specs.Sites.{function_sites}
 use Rattle.ir_model.specs.WellMade.{IsInTable, HasIds}
 use Rattle.ir_rules.specs.Blocks.{incoming, same_numbers, entries_agree, entries_fit}
 use Rattle.ir_rules.specs.Names.{block_definitions}
@@ -30,7 +34,8 @@ use Rattle.ir_rules.specs.Types.{is_wide, is_whole, converts, widths_fit}
 use Rattle.ir_meaning.proofs.LeadingPhis.{leading_at}
 use Rattle.never_stuck.proofs.Sound.{StandsIn}
 use Rattle.never_stuck.proofs.Accepted.{block_in, facts_at}
-use Rattle.never_stuck.proofs.DefinedOnce.{is_of_block, result_places, block_places, count_append, count_yes, counted, block_once}
+use Rattle.never_stuck.proofs.DefinedOnce.{is_of_block, result_places, block_places, count_append, count_yes, counted}
+use Rattle.never_stuck.proofs.DefinedOnce.{block_once}
 use Rattle.never_stuck.proofs.Elements.{contains_at, contains_more, map_has, map_only, flat_map_has}
 use Rattle.never_stuck.proofs.TypedEffects.{access_width}
 use Rattle.ir_machine.specs.Narrow.{IsNarrow, IsAccessed, IsNarrowOp, HasPlace, HasAgreeing}

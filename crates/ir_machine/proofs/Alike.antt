@@ -1,6 +1,7 @@
 -- A step looks at neither the events nor the trail, and adds the same events whichever there are. So two states for
 -- which one machine stands have runs with the same phases.
-use Rattle.std.specs.Prelude.{◌≡◌, ℕ, ◌-◌, ◌≤◌, ◌^◌, replicate, Bool, true, false, if◌then◌else◌, List, [], ◌∷◌, Option, Some, None, refl}
+use Rattle.std.specs.Prelude.{◌≡◌, ℕ, ◌-◌, ◌≤◌, ◌^◌, replicate, Bool, true, false, if◌then◌else◌, List, [], ◌∷◌, Option}
+use Rattle.std.specs.Prelude.{Some, None, refl}
 use Rattle.std.proofs.Common.{ap, sym, ◌∙◌, arith}
 use Rattle.std.proofs.Math.Path.{fun_ext}
 use Rattle.std.proofs.lemmas.List.{length-replicate}
@@ -20,7 +21,8 @@ use Rattle.ir_meaning.specs.State.{Registers, Event, State, is_running}
 use Rattle.ir_meaning.specs.Operands.{chosen}
 use Rattle.ir_meaning.specs.Effects.{Effect, Goes, Ends}
 use Rattle.ir_meaning.specs.Calls.{Answered, answered, outside_call}
-use Rattle.ir_meaning.specs.Step.{Computed, Gives, Fails, Way, Enters, Leaves, computed, gone, effect, way, with_phis, behind_phis, entered, after_effect, after_way, instr_at, carried_out, step}
+use Rattle.ir_meaning.specs.Step.{Computed, Gives, Fails, Way, Enters, Leaves, computed, gone, effect, way, with_phis}
+use Rattle.ir_meaning.specs.Step.{behind_phis, entered, after_effect, after_way, instr_at, carried_out, step}
 use Rattle.ir_meaning.specs.Run.{after}
 use Rattle.never_stuck.specs.NeverStuck.{NeverStuckFrom}
 use Rattle.ir_machine.specs.Stands.{Seen, Stands, register}

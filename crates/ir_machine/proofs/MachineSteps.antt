@@ -1,5 +1,6 @@
 -- What the parts of a step do to a machine and to the state for which it stands.
-use Rattle.std.specs.Prelude.{◌≡◌, ◌≢◌, ℕ, zero, suc, ◌+◌, replicate, true, false, List, [], ◌∷◌, length, Option, Some, None, slice_get, refl}
+use Rattle.std.specs.Prelude.{◌≡◌, ◌≢◌, ℕ, zero, suc, ◌+◌, replicate, true, false, List, [], ◌∷◌, length, Option, Some}
+use Rattle.std.specs.Prelude.{None, slice_get, refl}
 use Rattle.std.proofs.Common.{ap, sym, ◌∙◌, arith, length-append}
 use Rattle.std.proofs.Math.Path.{fun_ext}
 use Rattle.scev_base.specs.declared.ids.ValueId.{ValueId}
@@ -16,7 +17,8 @@ use Rattle.ir_meaning.specs.State.{Registers, State, is_running, ended}
 use Rattle.ir_meaning.specs.Operands.{chosen}
 use Rattle.ir_model.specs.Shapes.{entry, block_of, leading_phis, is_terminator}
 use Rattle.ir_meaning.specs.Effects.{Effect, Ends}
-use Rattle.ir_meaning.specs.Step.{Way, effect, way, with_phis, entered, with_given, after_effect, after_way, instr_at, carried_out, step}
+use Rattle.ir_meaning.specs.Step.{Way, effect, way, with_phis, entered, with_given, after_effect, after_way, instr_at}
+use Rattle.ir_meaning.specs.Step.{carried_out, step}
 use Rattle.ir_meaning.specs.Run.{with_args, start}
 use Rattle.ir_machine.specs.declared.phase.Phase.{Phase}
 use Rattle.ir_machine.specs.declared.phase.Phase.TheVariants as found

@@ -1,5 +1,6 @@
 -- What a machine computes, does, and where it goes, as in the definitions of a step.
-use Rattle.std.specs.Prelude.{◌≡◌, ℕ, ◌+◌, ◌-◌, ◌*◌, ◌^◌, ◌%◌, min, List, [], ◌∷◌, length, Option, Some, None, option_map, sum_by}
+use Rattle.std.specs.Prelude.{◌≡◌, ℕ, ◌+◌, ◌-◌, ◌*◌, ◌^◌, ◌%◌, min, List, [], ◌∷◌, length, Option, Some, None}
+use Rattle.std.specs.Prelude.{option_map, sum_by}
 use Rattle.ir_model.specs.declared.op.TypedOperand.{TypedOperand}
 use Rattle.ir_memory.specs.Memory.{Memory}
 use Rattle.ir_meaning.specs.declared.value.Value.{Value}

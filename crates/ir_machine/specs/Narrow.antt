@@ -5,7 +5,8 @@ use Rattle.ir_model.specs.declared.types.IrType.{IrType}
 use Rattle.ir_model.specs.declared.types.IrType.TheVariants.{Int}
 use Rattle.ir_model.specs.declared.op.TypedOperand.{TypedOperand}
 use Rattle.ir_model.specs.declared.op.Op.{Op}
-use Rattle.ir_model.specs.declared.op.Op.TheVariants.{Binary, Icmp, Cast, Select, Phi, Freeze, Alloca, Load, Store, Gep, Call, Switch, Ret}
+use Rattle.ir_model.specs.declared.op.Op.TheVariants.{Binary, Icmp, Cast, Select, Phi, Freeze, Alloca, Load, Store, Gep}
+use Rattle.ir_model.specs.declared.op.Op.TheVariants.{Call, Switch, Ret}
 use Rattle.ir_memory.specs.Spelling.{IsAccessWidth}
 use Rattle.ir_rules.specs.Blocks.{entries_agree}
 

@@ -1,5 +1,6 @@
 -- Where a function may stand for a second one and that for a third one, the first may stand for the third.
-use Rattle.std.specs.Prelude.{◌≡◌, ◌≢◌, ℕ, zero, suc, List, [], ◌∷◌, ◌⊎◌, Bool, true, false, cond, Option, Some, None, is_some, take, refl}
+use Rattle.std.specs.Prelude.{◌≡◌, ◌≢◌, ℕ, zero, suc, List, [], ◌∷◌, ◌⊎◌, Bool, true, false, cond, Option, Some, None}
+use Rattle.std.specs.Prelude.{is_some, take, refl}
 use Rattle.std.proofs.Common.{ap, sym, subst, ◌∙◌, inl, inr, arith}
 use Rattle.std.proofs.lemmas.Bool.{false≢true, cases_lt}
 use Rattle.std.proofs.lemmas.List.{take-take, take_all, length-take}
@@ -12,7 +13,9 @@ use Rattle.ir_meaning.specs.Phases.{Phase}
 use Rattle.ir_meaning.specs.Phases as phase
 use Rattle.ir_meaning.specs.State.{State, Event}
 use Rattle.ir_meaning.specs.Run.{start, after}
-use Rattle.ir_meaning.specs.Refinement.{RefinesValue, RefinesByte, RefinesList, RefinesMemory, RefinesEvent, RefinesAnswer, RefinesPhase, RefinesArgument, RefinesCall, common, Outdoes, ExcusedBy, Refines, JumpsBack, HasCommonBlocks, args_of}
+use Rattle.ir_meaning.specs.Refinement.{RefinesValue, RefinesByte, RefinesList, RefinesMemory, RefinesEvent}
+use Rattle.ir_meaning.specs.Refinement.{RefinesAnswer, RefinesPhase, RefinesArgument, RefinesCall, common, Outdoes}
+use Rattle.ir_meaning.specs.Refinement.{ExcusedBy, Refines, JumpsBack, HasCommonBlocks, args_of}
 use Rattle.ir_meaning.proofs.RefinementLaws.{InFunction, run_in}
 
 -- ---- what refines something that refines a third refines the third

@@ -14,7 +14,9 @@ use Rattle.ir_meaning.specs.State.{State, Event}
 use Rattle.ir_model.specs.Shapes.{block_of}
 use Rattle.ir_model.specs.Shapes.{entry}
 use Rattle.ir_meaning.specs.Run.{start, after}
-use Rattle.ir_meaning.specs.Refinement.{RefinesValue, RefinesByte, RefinesList, RefinesMemory, RefinesEvent, RefinesAnswer, RefinesPhase, RefinesArgument, RefinesCall, common, Outdoes, Refines, JumpsBack, args_of}
+use Rattle.ir_meaning.specs.Refinement.{RefinesValue, RefinesByte, RefinesList, RefinesMemory, RefinesEvent}
+use Rattle.ir_meaning.specs.Refinement.{RefinesAnswer, RefinesPhase, RefinesArgument, RefinesCall, common, Outdoes}
+use Rattle.ir_meaning.specs.Refinement.{Refines, JumpsBack, args_of}
 use Rattle.ir_meaning.proofs.StepShape.{Stepped, stays, ends, goes_on, enters}
 use Rattle.ir_meaning.proofs.RunInvariants.{after_keeps}
 
@@ -55,13 +57,15 @@ all_common f [] all = refl
 all_common f (b ∷ trail) all =
     cond-true (is_some (block_of f b)) (b ∷ common f trail) (common f trail) all.0 ∙ ap (λ (t : List ℕ). b ∷ t) (all_common f trail all.1)
 
-trail_in : (f : Function) (choice : Choice) (s t : State) → Stepped f choice s t → InFunction f s.trail → InFunction f t.trail
+trail_in : (f : Function) (choice : Choice) (s t : State) → Stepped f choice s t → InFunction f s.trail
+    → InFunction f t.trail
 trail_in f choice s t (stays e) all = rw e all
 trail_in f choice s t (ends how e) all = rw e all
 trail_in f choice s t (goes_on instr x memory events at other goes e) all = rw e all
 trail_in f choice s t (enters instr b block registers at last leads found phis e) all = rw e (rw found refl, all)
 
-entry_in : (f : Function) (blocks : List Block) → blocks ≢ [] → is_some (find (λ block. block.id.0 == entry blocks) blocks) ≡ true
+entry_in : (f : Function) (blocks : List Block) → blocks ≢ []
+    → is_some (find (λ block. block.id.0 == entry blocks) blocks) ≡ true
 entry_in f [] some = absurd (some refl)
 entry_in f (block ∷ blocks) some =
     ap is_some (cond-true (block.id.0 == block.id.0) (Some block) (find (λ one. one.id.0 == block.id.0) blocks) (eq-eqb block.id.0 block.id.0 refl))

@@ -12,7 +12,8 @@ use Rattle.ir_meaning.specs.declared.choice.Choice.{Choice}
 use Rattle.ir_meaning.specs.State.{Registers, Event, State, is_running, ended}
 use Rattle.ir_meaning.specs.Operands.{chosen}
 use Rattle.ir_meaning.specs.Effects.{Effect, Goes, Ends}
-use Rattle.ir_meaning.specs.Step.{Way, Enters, Leaves, effect, way, with_phis, behind_phis, entered, after_effect, after_way, instr_at, carried_out, step}
+use Rattle.ir_meaning.specs.Step.{Way, Enters, Leaves, effect, way, with_phis, behind_phis, entered, after_effect}
+use Rattle.ir_meaning.specs.Step.{after_way, instr_at, carried_out, step}
 
 -- A step with the choice leads from the one state to the other.
 pub data Stepped (f : Function) (choice : Choice) (s t : State) : Type 0 where
@@ -20,31 +21,43 @@ pub data Stepped (f : Function) (choice : Choice) (s t : State) : Type 0 where
   stays : t ≡ s → Stepped f choice s t
   ends : (how : Phase) → t ≡ ended how s → Stepped f choice s t
   -- an instruction that is no terminator is carried out
-  goes_on : (instr : Instr) (x : Option Value) (memory : Memory) (events : List Event) → instr_at f s ≡ Some instr → is_terminator instr.op ≡ false → effect choice s instr.op ≡ Goes x memory events → t ≡ after_effect instr.result s (Goes x memory events) → Stepped f choice s t
+  goes_on : (instr : Instr) (x : Option Value) (memory : Memory) (events : List Event) → instr_at f s ≡ Some instr
+      → is_terminator instr.op ≡ false → effect choice s instr.op ≡ Goes x memory events
+      → t ≡ after_effect instr.result s (Goes x memory events) → Stepped f choice s t
   -- a terminator leads to a block, whose phis all have values
-  enters : (instr : Instr) (b : ℕ) (block : Block) (registers : Registers) → instr_at f s ≡ Some instr → is_terminator instr.op ≡ true → way s.registers (chosen choice) instr.op ≡ Enters b → block_of f b ≡ Some block → with_phis s.registers (chosen choice) s.block (leading_phis block.instrs) s.registers ≡ Some registers → t ≡ behind_phis b block s (Some registers) → Stepped f choice s t
+  enters : (instr : Instr) (b : ℕ) (block : Block) (registers : Registers) → instr_at f s ≡ Some instr
+      → is_terminator instr.op ≡ true → way s.registers (chosen choice) instr.op ≡ Enters b → block_of f b ≡ Some block
+      → with_phis s.registers (chosen choice) s.block (leading_phis block.instrs) s.registers ≡ Some registers
+      → t ≡ behind_phis b block s (Some registers) → Stepped f choice s t
 
 module _ (f : Function) (choice : Choice) (s : State) where
-  acting : (instr : Instr) (e : Effect) → instr_at f s ≡ Some instr → is_terminator instr.op ≡ false → effect choice s instr.op ≡ e → Stepped f choice s (after_effect instr.result s e)
+  acting : (instr : Instr) (e : Effect) → instr_at f s ≡ Some instr → is_terminator instr.op ≡ false
+      → effect choice s instr.op ≡ e → Stepped f choice s (after_effect instr.result s e)
   acting instr (Goes x memory events) at other goes = goes_on instr x memory events at other goes refl
   acting instr (Ends how) at other over = ends how refl
 
   module _ (instr : Instr) (at : instr_at f s ≡ Some instr) (last : is_terminator instr.op ≡ true) where
-    behind : (b : ℕ) (block : Block) (o : Option Registers) → way s.registers (chosen choice) instr.op ≡ Enters b → block_of f b ≡ Some block → with_phis s.registers (chosen choice) s.block (leading_phis block.instrs) s.registers ≡ o → Stepped f choice s (behind_phis b block s o)
+    behind : (b : ℕ) (block : Block) (o : Option Registers) → way s.registers (chosen choice) instr.op ≡ Enters b
+        → block_of f b ≡ Some block
+        → with_phis s.registers (chosen choice) s.block (leading_phis block.instrs) s.registers ≡ o
+        → Stepped f choice s (behind_phis b block s o)
     behind b block None leads found phis = ends phase.Stuck refl
     behind b block (Some registers) leads found phis =
         enters instr b block registers at last leads found phis refl
 
-    entering : (b : ℕ) (o : Option Block) → way s.registers (chosen choice) instr.op ≡ Enters b → block_of f b ≡ o → Stepped f choice s (entered (chosen choice) b s o)
+    entering : (b : ℕ) (o : Option Block) → way s.registers (chosen choice) instr.op ≡ Enters b → block_of f b ≡ o
+        → Stepped f choice s (entered (chosen choice) b s o)
     entering b None leads found = ends phase.Stuck refl
     entering b (Some block) leads found =
         behind b block (with_phis s.registers (chosen choice) s.block (leading_phis block.instrs) s.registers) leads found refl
 
-    leading : (w : Way) → way s.registers (chosen choice) instr.op ≡ w → Stepped f choice s (after_way f (chosen choice) s w)
+    leading : (w : Way) → way s.registers (chosen choice) instr.op ≡ w
+        → Stepped f choice s (after_way f (chosen choice) s w)
     leading (Enters b) leads = entering b (block_of f b) leads refl
     leading (Leaves how) leads = ends how refl
 
-  either : (instr : Instr) (b : Bool) → instr_at f s ≡ Some instr → is_terminator instr.op ≡ b → Stepped f choice s (if b then after_way f (chosen choice) s (way s.registers (chosen choice) instr.op) else after_effect instr.result s (effect choice s instr.op))
+  either : (instr : Instr) (b : Bool) → instr_at f s ≡ Some instr → is_terminator instr.op ≡ b
+      → Stepped f choice s (if b then after_way f (chosen choice) s (way s.registers (chosen choice) instr.op) else after_effect instr.result s (effect choice s instr.op))
   either instr true at last = leading instr at last (way s.registers (chosen choice) instr.op) refl
   either instr false at other = acting instr (effect choice s instr.op) at other refl
 

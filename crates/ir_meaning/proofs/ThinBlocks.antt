@@ -22,7 +22,9 @@ giving_goes_on values labels (Icmp pred kind left right) thin = refl
 giving_goes_on values labels _ thin = absurd thin
 
 -- a terminator is the last instruction
-terminator_is_last : (values labels : ℕ) (instrs : List Instr) (j : ℕ) (instr : Instr) → AreThinInstrs values labels instrs → slice_get instrs j ≡ Some instr → is_terminator instr.op ≡ true → length instrs ≡ suc j
+terminator_is_last : (values labels : ℕ) (instrs : List Instr) (j : ℕ) (instr : Instr)
+    → AreThinInstrs values labels instrs → slice_get instrs j ≡ Some instr → is_terminator instr.op ≡ true
+    → length instrs ≡ suc j
 terminator_is_last values labels [] j instr thin at ends = absurd thin
 terminator_is_last values labels (x ∷ []) zero instr thin at ends = refl
 terminator_is_last values labels (x ∷ []) (suc j) instr thin at ends = absurd (none-some instr at)
@@ -32,7 +34,8 @@ terminator_is_last values labels (x ∷ y ∷ more) (suc j) instr thin at ends =
     ap suc (terminator_is_last values labels (y ∷ more) j instr thin.2 at ends)
 
 -- what gives a result isn't the last instruction
-pub giving_before_last : (values labels : ℕ) (instrs : List Instr) (j : ℕ) (instr : Instr) (v : ℕ) → AreThinInstrs values labels instrs → slice_get instrs j ≡ Some instr → GivesTo v instr → suc j < length instrs
+pub giving_before_last : (values labels : ℕ) (instrs : List Instr) (j : ℕ) (instr : Instr) (v : ℕ)
+    → AreThinInstrs values labels instrs → slice_get instrs j ≡ Some instr → GivesTo v instr → suc j < length instrs
 giving_before_last values labels [] j instr v thin at gives = absurd thin
 giving_before_last values labels (x ∷ []) zero instr v thin at gives =
     absurd (none-some (record { 0 = v }) (sym thin.0 ∙ ap (λ (i : Instr). i.result) (same_Some x instr at) ∙ gives))
@@ -43,7 +46,9 @@ giving_before_last values labels (x ∷ y ∷ more) (suc j) instr v thin at give
     omega (arith, rest)
 
 -- so in a thin function what gives a result stands before the terminator
-pub giving_before_terminator : (f : Function) (b : ℕ) (block : Block) (i j : ℕ) (giving ending : Instr) (v : ℕ) → IsThinFunction f → block_of f b ≡ Some block → slice_get block.instrs i ≡ Some giving → GivesTo v giving → slice_get block.instrs j ≡ Some ending → is_terminator ending.op ≡ true → i < j
+pub giving_before_terminator : (f : Function) (b : ℕ) (block : Block) (i j : ℕ) (giving ending : Instr) (v : ℕ)
+    → IsThinFunction f → block_of f b ≡ Some block → slice_get block.instrs i ≡ Some giving → GivesTo v giving
+    → slice_get block.instrs j ≡ Some ending → is_terminator ending.op ≡ true → i < j
 giving_before_terminator f b block i j giving ending v thin found at gives there ends =
     let stands = found_there (λ (one : Block). one.id.0 == b) f.blocks block found in
     let instrs = (all_at (λ (one : Block). (one.id.0 < length f.labels) × AreThinInstrs (length f.values) (length f.labels) one.instrs) f.blocks stands.0 block thin.blocks stands.1).1 in

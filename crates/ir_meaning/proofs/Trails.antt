@@ -17,7 +17,8 @@ abbrev pub HasTrail : State → Type 0
 HasTrail s = Follows s.trail s.block s.previous
 
 -- after one more block is entered
-follows_more : (trail : List ℕ) (b : ℕ) (previous : Option ℕ) (next : ℕ) → Follows trail b previous → Follows (next ∷ trail) next (Some b)
+follows_more : (trail : List ℕ) (b : ℕ) (previous : Option ℕ) (next : ℕ) → Follows trail b previous
+    → Follows (next ∷ trail) next (Some b)
 follows_more [] b previous next h = absurd h
 follows_more (newest ∷ []) b previous next h = (refl, rw h.0)
 follows_more (newest ∷ second ∷ older) b previous next h = (refl, rw h.0)

@@ -1,5 +1,6 @@
 -- What instructions do to memory, row by row (LLVM Language Reference, "Memory Access and Addressing Operations").
-use Rattle.std.specs.Prelude.{ℕ, ◌==◌, Bool, not, ◌&&◌, nat_le, if◌then◌else◌, List, [], ◌∷◌, length, Option, Some, None, option_map, option_and_then}
+use Rattle.std.specs.Prelude.{ℕ, ◌==◌, Bool, not, ◌&&◌, nat_le, if◌then◌else◌, List, [], ◌∷◌, length, Option, Some}
+use Rattle.std.specs.Prelude.{None, option_map, option_and_then}
 use Rattle.scev_base.specs.Residue.{residue, reading}
 use Rattle.ir_model.specs.declared.types.IrType.{IrType}
 use Rattle.ir_model.specs.declared.types.IrType.TheVariants.{Int, Array}
@@ -39,7 +40,8 @@ abbrev pub value_stored : Value → Loaded
 value_stored (value.Number n) = loaded.Number n
 value_stored _ = loaded.Poison
 
--- `load` at a pointer, of w bits, with the chosen number; undefined at null and poison, and where a byte isn't in the block
+-- `load` at a pointer, of w bits, with the chosen number; undefined at null and poison, and where a byte isn't in the
+-- block
 abbrev pub loaded_at : Memory → ℕ → ℕ → Value → Effect
 loaded_at memory w n (value.Pointer block offset) =
     if is_in_block memory block offset (byte_count w)
@@ -57,8 +59,8 @@ stored_at memory w x _ = Ends phase.Undefined
 
 -- ---- addresses
 
--- how many bytes each index of a type steps: the first one the whole type, each further one what stands in one dimension
--- less
+-- how many bytes each index of a type steps: the first one the whole type, each further one what stands in one
+-- dimension less
 abbrev pub steps_within : List ℕ → ℕ → List ℕ
 steps_within [] w = []
 steps_within (dim ∷ dims) w = array_size dims w ∷ steps_within dims w
@@ -81,7 +83,8 @@ index_value registers n typed _ = None
 abbrev pub index_values : Registers → ℕ → List TypedOperand → Option (List Value)
 index_values registers n [] = Some []
 index_values registers n (typed ∷ more) =
-    option_and_then (λ x. option_map (λ xs. x ∷ xs) (index_values registers n more)) (index_value registers n typed typed.kind)
+    option_and_then (λ x. option_map (λ xs. x ∷ xs) (index_values registers n more))
+    (index_value registers n typed typed.kind)
 
 -- each index with the bytes that it steps; none where one is poison
 abbrev pub parts_of : List ℕ → List Value → Option (List (ℕ × ℕ))
@@ -89,8 +92,8 @@ parts_of (step ∷ steps) (value.Number k ∷ more) = option_map (λ parts. (k, 
 parts_of (step ∷ steps) (_ ∷ more) = None
 parts_of _ _ = Some []
 
--- The address so far from a base, modulo 2^64. With `inbounds` it is poison where it leaves 0 to the block's size, and at
--- null where it isn't null. Without, every address at null is null.
+-- The address so far from a base, modulo 2^64. With `inbounds` it is poison where it leaves 0 to the block's size, and
+-- at null where it isn't null. Without, every address at null is null.
 abbrev pub address_at : Memory → Bool → Value → List (ℕ × ℕ) → Value
 address_at memory inbounds (value.Pointer block offset) parts =
     if inbounds && not (nat_le (offset_from offset parts) (length (block_at memory block))) then value.Poison

@@ -1,6 +1,7 @@
 -- What a call of the outside does (LLVM Language Reference, "call Instruction"): the outside sees the arguments and the
 -- contents of memory, and answers a value and new contents.
-use Rattle.std.specs.Prelude.{ℕ, ◌%◌, ◌^◌, Bool, true, ◌&&◌, if◌then◌else◌, List, [], ◌∷◌, Option, Some, None, option_map, option_and_then}
+use Rattle.std.specs.Prelude.{ℕ, ◌%◌, ◌^◌, Bool, true, ◌&&◌, if◌then◌else◌, List, [], ◌∷◌, Option, Some, None}
+use Rattle.std.specs.Prelude.{option_map, option_and_then}
 use Rattle.ir_model.specs.declared.types.IrType.{IrType}
 use Rattle.ir_model.specs.declared.types.IrType.TheVariants.{Void, Int, Ptr}
 use Rattle.ir_model.specs.declared.op.TypedOperand.{TypedOperand}
@@ -15,8 +16,8 @@ use Rattle.ir_meaning.specs.Values.{fits}
 use Rattle.ir_meaning.specs.Operands.{operand_value}
 use Rattle.ir_meaning.specs.Effects.{Effect, Goes, Ends, with_operands}
 
--- What the outside answers: the number that `undef` takes in the arguments, the value, none from a function of type `void`,
--- and the contents of memory from then on.
+-- What the outside answers: the number that `undef` takes in the arguments, the value, none from a function of type
+-- `void`, and the contents of memory from then on.
 pub record Answered : Type 0 where
   pub number : ℕ
   pub answer : Option Value
@@ -31,8 +32,8 @@ answer_of_number _ n = None
 abbrev pub answered_number : IrType → Memory → ℕ → Answered
 answered_number ret memory n = record { number = n; answer = answer_of_number ret n; contents = memory }
 
--- whether a value and new contents may be an answer: the value fits the call's type, each fits a call of type `void`; and
--- the contents are bytes of blocks of the same sizes
+-- whether a value and new contents may be an answer: the value fits the call's type, each fits a call of type `void`;
+-- and the contents are bytes of blocks of the same sizes
 abbrev pub value_answers : Memory → IrType → Value → Bool
 value_answers memory Void x = true
 value_answers memory ret x = fits memory ret x

@@ -6,8 +6,9 @@ use Rattle.ir_meaning.specs.Phases.{Phase}
 use Rattle.ir_meaning.specs.Phases as phase
 use Rattle.ir_meaning.specs.State.{Event}
 
--- What an operation that isn't a terminator does: control goes on to the next instruction, with the value that it gives, if
--- any, the memory from then on and the events that it adds; or the run ends. So what gives a value leads to no block.
+-- What an operation that isn't a terminator does: control goes on to the next instruction, with the value that it
+-- gives, if any, the memory from then on and the events that it adds; or the run ends. So what gives a value leads to
+-- no block.
 pub data Effect : Type 0 where
   Goes : Option Value → Memory → List Event → Effect
   Ends : Phase → Effect

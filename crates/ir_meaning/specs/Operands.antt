@@ -23,8 +23,9 @@ abbrev pub of_type : IrType → Option Value → Option Value
 of_type kind None = None
 of_type kind (Some x) = if is_of_type kind x then Some x else None
 
--- The value of an operand at its type; none where it has none, so that the run is stuck: a register isn't set or holds a
--- value of another type, or a literal is of another type. `undef` is the chosen number modulo 2^w, and a null pointer.
+-- The value of an operand at its type; none where it has none, so that the run is stuck: a register isn't set or holds
+-- a value of another type, or a literal is of another type. `undef` is the chosen number modulo 2^w, and a null
+-- pointer.
 abbrev pub operand_value : Registers → ℕ → IrType → Operand → Option Value
 operand_value registers n kind (operand.Reg v) = of_type kind (registers v.0)
 operand_value registers n (Int w) (operand.Num z) = Some (value.Number (residue w z))

@@ -1,5 +1,6 @@
 -- When one function may stand for another.
-use Rattle.std.specs.Prelude.{◌≡◌, ℕ, List, [], ◌∷◌, ◌++◌, ◌⊎◌, true, cond, Option, Some, None, option_and_then, filter, map, is_some, take}
+use Rattle.std.specs.Prelude.{◌≡◌, ℕ, List, [], ◌∷◌, ◌++◌, ◌⊎◌, true, cond, Option, Some, None, option_and_then, filter}
+use Rattle.std.specs.Prelude.{map, is_some, take}
 use Rattle.scev_base.specs.declared.ids.BlockId.{BlockId}
 use Rattle.ir_model.specs.declared.op.Op.{Op}
 use Rattle.ir_model.specs.declared.op.Op.TheVariants.{Call, Jump}
@@ -42,7 +43,8 @@ RefinesMemory = RefinesList (RefinesList RefinesByte)
 -- An event refines one of the same callee and answer whose arguments and contents it refines.
 abbrev pub RefinesEvent : Event → Event → Type 0
 RefinesEvent out in_ = (out.callee ≡ in_.callee) × (out.answer ≡ in_.answer)
-    × RefinesList RefinesValue out.args in_.args × RefinesMemory out.before in_.before × RefinesMemory out.after in_.after
+    × RefinesList RefinesValue out.args in_.args
+    × RefinesMemory out.before in_.before × RefinesMemory out.after in_.after
 
 -- Two phases are of one kind, and what was returned refines.
 abbrev pub RefinesAnswer : Option Value → Option Value → Type 0
@@ -77,7 +79,8 @@ RefinesArgument out None = Unit {0}
 RefinesArgument (Some x) (Some y) = RefinesValue x y
 RefinesArgument None (Some y) = ⊥
 
--- Where one state stands at a call, the other stands at one of the same callee, and under each choice its arguments are refined.
+-- Where one state stands at a call, the other stands at one of the same callee, and under each choice its arguments are
+-- refined.
 abbrev pub RefinesCall : Function → Function → State → State → Type 0
 RefinesCall f g out in_ = (callee : List ℕ) (operands : List TypedOperand) → call_at f out ≡ Some (callee, operands)
     → (others : List TypedOperand) × (call_at g in_ ≡ Some (callee, others))
@@ -87,8 +90,8 @@ RefinesCall f g out in_ = (callee : List ℕ) (operands : List TypedOperand) →
 abbrev pub common : Function → List ℕ → List ℕ
 common g trail = filter (λ b. is_some (block_of g b)) trail
 
--- A state of the one function outdoes a state of the other: they have entered the same blocks in the same order, added ones
--- left out, and events, memory, phases, what was returned and the call at which they stand refine.
+-- A state of the one function outdoes a state of the other: they have entered the same blocks in the same order, added
+-- ones left out, and events, memory, phases, what was returned and the call at which they stand refine.
 pub record Outdoes (f g : Function) (out in_ : State) : Type 0 where
   pub blocks : common g out.trail ≡ in_.trail
   pub events : RefinesList RefinesEvent out.events in_.events
@@ -105,18 +108,21 @@ pub record ExcusedBy (out in_ : State) : Type 0 where
 -- Each added block ends in a jump to a block of the other function.
 abbrev pub JumpsBack : Function → Function → Type 0
 JumpsBack f g = (b : ℕ) (block : Block) → block_of f b ≡ Some block → block_of g b ≡ None
-    → (front : List Instr) × (jump : Instr) × (to : BlockId) × (block.instrs ≡ front ++ jump ∷ []) × (jump.op ≡ Jump to) × (is_some (block_of g to.0) ≡ true)
+    → (front : List Instr) × (jump : Instr) × (to : BlockId) × (block.instrs ≡ front ++ jump ∷ [])
+    × (jump.op ≡ Jump to) × (is_some (block_of g to.0) ≡ true)
 
--- The first function may stand for the second: they have the same parameters, and for each run of the first there is one of
--- the second from the same start that ends in a state that the first one's outdoes, or that is undefined after events with
--- which those of the first begin.
+-- The first function may stand for the second: they have the same parameters, and for each run of the first there is
+-- one of the second from the same start that ends in a state that the first one's outdoes, or that is undefined after
+-- events with which those of the first begin.
 pub record Refines (f g : Function) : Type 0 where
   pub params : f.params ≡ g.params
   pub runs : (args : List Value) (memory : Memory) → MayStart g.params args memory → (choices : List Choice)
-      → (others : List Choice) × (Outdoes f g (after f (start f args memory) choices) (after g (start g args memory) others)
+      → (others : List Choice)
+      × (Outdoes f g (after f (start f args memory) choices) (after g (start g args memory) others)
       ⊎ ExcusedBy (after f (start f args memory) choices) (after g (start g args memory) others))
   pub added : JumpsBack f g
 
 -- A function has each block that two others have in common.
 abbrev pub HasCommonBlocks : Function → Function → Function → Type 0
-HasCommonBlocks f g h = (b : ℕ) → is_some (block_of f b) ≡ true → is_some (block_of h b) ≡ true → is_some (block_of g b) ≡ true
+HasCommonBlocks f g h = (b : ℕ) → is_some (block_of f b) ≡ true → is_some (block_of h b) ≡ true
+    → is_some (block_of g b) ≡ true

@@ -1,5 +1,7 @@
 -- What instructions give to numbers of w bits, row by row (LLVM Language Reference, "Instruction Reference").
-use Rattle.std.specs.Prelude.{ℕ, ◌+◌, ◌-◌, ◌*◌, ◌/◌, ◌%◌, ◌^◌, ◌==◌, Bool, true, false, not, ◌&&◌, ◌||◌, if◌then◌else◌, nat_lt, nat_le, Option, Some, None, ℤ, pos, neg_ℤ, ◌+ℤ◌, ◌*ℤ◌, int_lt, int_le, int_div, int_rem, bit_and, bit_or, bit_xor}
+use Rattle.std.specs.Prelude.{ℕ, ◌+◌, ◌-◌, ◌*◌, ◌/◌, ◌%◌, ◌^◌, ◌==◌, Bool, true, false, not, ◌&&◌, ◌||◌, if◌then◌else◌}
+use Rattle.std.specs.Prelude.{nat_lt, nat_le, Option, Some, None, ℤ, pos, neg_ℤ, ◌+ℤ◌, ◌*ℤ◌, int_lt, int_le, int_div}
+use Rattle.std.specs.Prelude.{int_rem, bit_and, bit_or, bit_xor}
 use Rattle.std.specs.Int.{int_div_euclid}
 use Rattle.scev_base.specs.Residue.{residue, reading}
 use Rattle.scev_base.specs.declared.pred.Pred.{Pred}
@@ -159,8 +161,8 @@ holds pred.Sle w a b = int_le (reading w a) (reading w b)
 abbrev pub compared : Pred → ℕ → ℕ → ℕ → Value
 compared pred w a b = value.Number (if holds pred w a b then 1 else 0)
 
--- `icmp` of pointers by `eq` or `ne`, with the chosen number: null is null alone, pointers of one block compare by their
--- offsets, and of two blocks the choice modulo 2 is the answer; no other predicate has a meaning
+-- `icmp` of pointers by `eq` or `ne`, with the chosen number: null is null alone, pointers of one block compare by
+-- their offsets, and of two blocks the choice modulo 2 is the answer; no other predicate has a meaning
 abbrev pub same_pointer : Value → Value → Option Bool
 same_pointer value.Null value.Null = Some true
 same_pointer (value.Pointer block offset) (value.Pointer other at) =

@@ -20,7 +20,8 @@ ArgsFit memory (p ∷ ps) (x ∷ xs) = IsTrue (fits memory p.kind x) × ArgsFit 
 ArgsFit memory [] (x ∷ xs) = ⊥
 ArgsFit memory (p ∷ ps) [] = ⊥
 
--- A run may start with the arguments and the memory: they fit, and each byte is a number below 256, poison or unwritten.
+-- A run may start with the arguments and the memory: they fit, and each byte is a number below 256, poison or
+-- unwritten.
 pub record MayStart (params : List Param) (args : List Value) (memory : Memory) : Type 0 where
   pub fit : ArgsFit memory params args
   pub bytes : IsTrue (are_bytes memory)
@@ -60,8 +61,8 @@ pub record Run (f : Function) : Type 0 where
   pub may : MayStart f.params args memory
   pub choices : List Choice
 
--- the state in which it ends. Each front of a run is a run, so what holds of the last state of each run holds of each state
--- of each run.
+-- the state in which it ends. Each front of a run is a run, so what holds of the last state of each run holds of each
+-- state of each run.
 abbrev pub last : (f : Function) → Run f → State
 last f r = after f (start f r.args r.memory) r.choices
 
@@ -74,5 +75,7 @@ GivesTo v instr = instr.result ≡ Some (record { 0 = v })
 abbrev pub IsFresh : Function → State → ℕ → Type 0
 IsFresh f s v = (s.phase ≡ phase.Running) × (block : Block) × (block_of f s.block ≡ Some block) × (
     ((s.previous ≡ None) × (s.place ≡ 0) × Any (λ p. p.value.0 ≡ v) f.params)
-    ⊎ ((s.previous ≢ None) × (s.place ≡ length (leading_phis block.instrs)) × Any (GivesTo v) (leading_phis block.instrs))
-    ⊎ ((i : ℕ) × (instr : Instr) × (s.place ≡ suc i) × (slice_get block.instrs i ≡ Some instr) × (is_phi instr.op ≡ false) × GivesTo v instr))
+    ⊎ ((s.previous ≢ None) × (s.place ≡ length (leading_phis block.instrs))
+    × Any (GivesTo v) (leading_phis block.instrs))
+    ⊎ ((i : ℕ) × (instr : Instr) × (s.place ≡ suc i) × (slice_get block.instrs i ≡ Some instr)
+    × (is_phi instr.op ≡ false) × GivesTo v instr))

@@ -24,9 +24,9 @@ pub record Event : Type 0 where
   pub answer : Option Value
   pub after : Memory
 
--- A state stands in a block before the instruction at a place, from 0. It has the block that control came from, what the
--- registers hold, the memory, the events so far, the first one first, how far the run is, and the trail: the blocks that
--- were entered so far, the newest first.
+-- A state stands in a block before the instruction at a place, from 0. It has the block that control came from, what
+-- the registers hold, the memory, the events so far, the first one first, how far the run is, and the trail: the blocks
+-- that were entered so far, the newest first.
 pub record State : Type 0 where
   pub block : ℕ
   pub place : ℕ

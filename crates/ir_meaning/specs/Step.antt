@@ -1,5 +1,6 @@
 -- One step of a run.
-use Rattle.std.specs.Prelude.{ℕ, ◌+◌, ◌%◌, ◌^◌, ◌==◌, List, [], ◌∷◌, ◌++◌, length, true, false, if◌then◌else◌, Option, Some, None, option_and_then, option_map, slice_get, find}
+use Rattle.std.specs.Prelude.{ℕ, ◌+◌, ◌%◌, ◌^◌, ◌==◌, List, [], ◌∷◌, ◌++◌, length, true, false, if◌then◌else◌, Option}
+use Rattle.std.specs.Prelude.{Some, None, option_and_then, option_map, slice_get, find}
 use Rattle.scev_base.specs.declared.ids.ValueId.{ValueId}
 use Rattle.scev_base.specs.Residue.{residue}
 use Rattle.scev_base.specs.declared.pred.Pred.TheVariants as pred
@@ -10,7 +11,8 @@ use Rattle.ir_model.specs.declared.op.Operand.{Operand}
 use Rattle.ir_model.specs.declared.op.PhiEntry.{PhiEntry}
 use Rattle.ir_model.specs.declared.min_max.MinMax.{MinMax}
 use Rattle.ir_model.specs.declared.op.Op.{Op}
-use Rattle.ir_model.specs.declared.op.Op.TheVariants.{Binary, Icmp, Cast, Select, Phi, Freeze, Alloca, Load, Store, Gep, Call, Jump, Branch, Switch, Ret, Unreachable}
+use Rattle.ir_model.specs.declared.op.Op.TheVariants.{Binary, Icmp, Cast, Select, Phi, Freeze, Alloca, Load, Store, Gep}
+use Rattle.ir_model.specs.declared.op.Op.TheVariants.{Call, Jump, Branch, Switch, Ret, Unreachable}
 use Rattle.ir_model.specs.declared.function.Instr.{Instr}
 use Rattle.ir_model.specs.declared.function.Block.{Block}
 use Rattle.ir_model.specs.declared.function.Function.{Function}
@@ -73,9 +75,9 @@ abbrev pub frozen : ℕ → ℕ → Value → Value
 frozen w n value.Poison = value.Number (n % 2 ^ w)
 frozen w n x = x
 
--- The operations that are computed from their operands, with the registers and the chosen number, row by row. A phi has no
--- row: it is carried out by the branch that enters its block. Where an operation stands with types for which it has none, a
--- run is stuck.
+-- The operations that are computed from their operands, with the registers and the chosen number, row by row. A phi has
+-- no row: it is carried out by the branch that enters its block. Where an operation stands with types for which it has
+-- none, a run is stuck.
 abbrev pub computed : Registers → ℕ → Op → Computed
 computed registers n (Binary op nuw nsw exact disjoint (Int w) left right) =
     with_value (operand_value registers n (Int w) left) (λ a.
@@ -165,11 +167,12 @@ entry_from from entries = option_map (λ entry. entry.value) (find (λ entry. en
 
 -- the value of a phi where control comes from the block
 abbrev pub phi_value : Registers → ℕ → ℕ → Op → Option Value
-phi_value registers n from (Phi kind entries) = option_and_then (operand_value registers n kind) (entry_from from entries)
+phi_value registers n from (Phi kind entries) =
+    option_and_then (operand_value registers n kind) (entry_from from entries)
 phi_value registers n from _ = None
 
--- All phis at once: the value of each is read in the registers before, and set in those after. There are none where a phi
--- has no value.
+-- All phis at once: the value of each is read in the registers before, and set in those after. There are none where a
+-- phi has no value.
 abbrev pub with_phis : Registers → ℕ → ℕ → List Instr → Registers → Option Registers
 with_phis before n from [] after = Some after
 with_phis before n from (instr ∷ instrs) after =
@@ -220,7 +223,7 @@ carried_out f choice s (Some instr) =
     if is_terminator instr.op then after_way f (chosen choice) s (way s.registers (chosen choice) instr.op)
     else after_effect instr.result s (effect choice s instr.op)
 
--- One step: the instruction is carried out, and with a branch all phis of the entered block. A run that has come to an end
--- stays as it is.
+-- One step: the instruction is carried out, and with a branch all phis of the entered block. A run that has come to an
+-- end stays as it is.
 unfoldable pub step : Function → Choice → State → State
 step f choice s = if is_running s.phase then carried_out f choice s (instr_at f s) else s

@@ -49,4 +49,5 @@ AreThinInstrs values labels (instr ∷ next ∷ more) =
 pub record IsThinFunction (f : Function) : Type 0 where
   pub entry : f.blocks ≢ []
   pub params : All (λ p. (p.kind ≡ Int 32) × (p.value.0 < length f.values)) f.params
-  pub blocks : All (λ block. (block.id.0 < length f.labels) × AreThinInstrs (length f.values) (length f.labels) block.instrs) f.blocks
+  pub blocks : All (λ block. (block.id.0 < length f.labels)
+      × AreThinInstrs (length f.values) (length f.labels) block.instrs) f.blocks

@@ -1,5 +1,7 @@
 -- What the rules say of the instructions of an accepted function.
-use Rattle.std.proofs.Common.{◌≡◌, ℕ, zero, suc, ◌==◌, ◌<◌, ◌≤◌, Bool, true, false, cond, not, ◌||◌, List, [], ◌∷◌, ◌++◌, length, map, flat_map, filter, Option, Some, None, Contains, slice_get, refl, sym, ap, ◌∙◌, subst, inl, inr, arith}
+use Rattle.std.proofs.Common.{◌≡◌, ℕ, zero, suc, ◌==◌, ◌<◌, ◌≤◌, Bool, true, false, cond, not, ◌||◌, List, [], ◌∷◌}
+use Rattle.std.proofs.Common.{◌++◌, length, map, flat_map, filter, Option, Some, None, Contains, slice_get, refl, sym}
+use Rattle.std.proofs.Common.{ap, ◌∙◌, subst, inl, inr, arith}
 use Rattle.std.specs.List.{list_any}
 use Rattle.std.proofs.lemmas.Bool.{eqb-true, not-false, true≢false, cases_Bool, cond-true, cond-false}
 use Rattle.std.proofs.lemmas.Option.{none-some, same_Some}
@@ -28,7 +30,8 @@ use Rattle.ir_rules.specs.Rules.{broken, shape_rules, first_with, first_of}
 use Rattle.ir_rules.specs.Spots.{Spot, block_spots, spots, place, places_where}
 use Rattle.ir_rules.specs.Types.{types_fit, is_wide, widths_fit, bad_params}
 use Rattle.ir_rules.specs.Values.{is_void_value, misuses_pointer, call_fits}
-use Rattle.never_stuck.proofs.Elements.{contains_at, contains_more, map_none, append_none, map_has, flat_map_has, flat_map_none, none_passes, any_found}
+use Rattle.never_stuck.proofs.Elements.{contains_at, contains_more, map_none, append_none, map_has, flat_map_has}
+use Rattle.never_stuck.proofs.Elements.{flat_map_none, none_passes, any_found}
 use Rattle.never_stuck.proofs.Sound.{StandsIn, Facts}
 
 -- ---- no rule has a place

@@ -1,5 +1,7 @@
 -- A value of an accepted function has the type of what gives it, since that is its one definition.
-use Rattle.std.proofs.Common.{◌≡◌, ℕ, zero, suc, ◌==◌, ◌+◌, ◌<◌, ◌≤◌, true, false, cond, List, [], ◌∷◌, length, map, flat_map, count_by, Option, Some, None, Contains, slice_get, unwrap_or, option_map, refl, sym, ap, ◌∙◌, subst, inl, inr, arith}
+use Rattle.std.proofs.Common.{◌≡◌, ℕ, zero, suc, ◌==◌, ◌+◌, ◌<◌, ◌≤◌, true, false, cond, List, [], ◌∷◌, length, map}
+use Rattle.std.proofs.Common.{flat_map, count_by, Option, Some, None, Contains, slice_get, unwrap_or, option_map, refl}
+use Rattle.std.proofs.Common.{sym, ap, ◌∙◌, subst, inl, inr, arith}
 use Rattle.std.proofs.lemmas.Bool.{cases_Bool, cond-true, eq-eqb}
 use Rattle.std.proofs.lemmas.Option.{none-some, same_Some, slice_get_cases}
 use Rattle.std.proofs.lemmas.List.Elements.{All-contains, Contains-append_left, Contains-append_right}
@@ -14,14 +16,16 @@ use Rattle.ir_model.specs.declared.function.ValueInfo.{ValueInfo}
 use Rattle.ir_model.specs.declared.signature.Signatures.{Signatures}
 use Rattle.ir_model.specs.declared.rule.Place.TheVariants.{Value, BlockAt}
 use Rattle.ir_model.specs.Defined.{given_type, is_value, or_else, param_type, instr_type, block_type, type_of}
-use Rattle.ir_model.specs.Sites.{DefinesValue, DefinesBlock, result_sites, op_sites, instr_sites, block_sites, function_sites}
+use Rattle.ir_model.specs.Sites.{DefinesValue, DefinesBlock, result_sites, op_sites, instr_sites, block_sites}
+use Rattle.ir_model.specs.Sites.{function_sites}
 use Rattle.ir_model.specs.WellMade.{IsInTable, HasIds, IsWellMade}
 use Rattle.ir_meaning.proofs.ListPlaces.{contained_at}
 use Rattle.ir_rules.specs.Accepted.{IsAccepted}
 use Rattle.ir_rules.specs.Names.{result_place, block_definitions}
 use Rattle.ir_rules.specs.Types.{kind_of}
 use Rattle.never_stuck.proofs.Accepted.{block_in}
-use Rattle.never_stuck.proofs.DefinedOnce.{count_cons, count_append, count_yes, count_no, counted, is_of_value, param_places, result_places, block_places, value_once}
+use Rattle.never_stuck.proofs.DefinedOnce.{count_cons, count_append, count_yes, count_no, counted, is_of_value}
+use Rattle.never_stuck.proofs.DefinedOnce.{param_places, result_places, block_places, value_once}
 use Rattle.never_stuck.proofs.Elements.{contains_at, contains_more, map_has, flat_map_has}
 use Rattle.never_stuck.proofs.Sound.{StandsIn}
 

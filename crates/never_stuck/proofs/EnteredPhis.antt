@@ -1,7 +1,10 @@
 -- A phi of an accepted function has an entry for each edge that leads to its block, and the first block has no phi.
-use Rattle.std.proofs.Common.{◌≡◌, ◌≢◌, ℕ, ◌==◌, ◌<◌, Bool, true, false, not, List, [], ◌∷◌, ◌++◌, map, filter, find, count_by, Option, Some, Contains, slice_get, option_map, refl, sym, ap, ◌∙◌, subst, inl, inr, arith}
+use Rattle.std.proofs.Common.{◌≡◌, ◌≢◌, ℕ, ◌==◌, ◌<◌, Bool, true, false, not, List, [], ◌∷◌, ◌++◌, map, filter, find}
+use Rattle.std.proofs.Common.{count_by, Option, Some, Contains, slice_get, option_map, refl, sym, ap, ◌∙◌, subst, inl}
+use Rattle.std.proofs.Common.{inr, arith}
 use Rattle.std.specs.List.{list_any}
-use Rattle.std.proofs.lemmas.Bool.{cases_Bool, cond-true, eqb-true, eq-eqb, not-true, true≢false, false≢true, and_parts, or_left, or_right}
+use Rattle.std.proofs.lemmas.Bool.{cases_Bool, cond-true, eqb-true, eq-eqb, not-true, true≢false, false≢true, and_parts}
+use Rattle.std.proofs.lemmas.Bool.{or_left, or_right}
 use Rattle.std.proofs.lemmas.List.Elements.{Contains-append_left, Contains-append_right}
 use Rattle.std.proofs.lemmas.List.Folds.{Any-from_list_any}
 use Rattle.ir_model.specs.declared.types.IrType.{IrType}
@@ -24,7 +27,8 @@ use Rattle.ir_rules.specs.Blocks.{is_target, incoming, occurs, same_numbers, ent
 use Rattle.ir_rules.specs.Spots.{Spot, block_spots, spots}
 use Rattle.never_stuck.proofs.Accepted.{unbroken, block_in, any_of_map, holds_of_unless, none_leads, facts_at}
 use Rattle.never_stuck.proofs.DefinedOnce.{count_no, counted}
-use Rattle.never_stuck.proofs.Elements.{contains_at, map_has, map_only, flat_map_has, flat_map_only, filter_has, filter_only, any_found, none_of_any, one_of_all}
+use Rattle.never_stuck.proofs.Elements.{contains_at, map_has, map_only, flat_map_has, flat_map_only, filter_has}
+use Rattle.never_stuck.proofs.Elements.{filter_only, any_found, none_of_any, one_of_all}
 use Rattle.never_stuck.proofs.Sound.{StandsIn}
 
 -- ---- what counts in both of two lists

@@ -1,5 +1,6 @@
 -- Each step of a sound state that runs leads to a sound state that runs, or ends the run, and never stuck.
-use Rattle.std.proofs.Common.{◌≡◌, ◌≢◌, ℕ, suc, ◌+◌, ◌<◌, ◌⊎◌, true, false, List, length, Option, Some, None, Contains, refl, sym, ◌∙◌, inl, inr, arith}
+use Rattle.std.proofs.Common.{◌≡◌, ◌≢◌, ℕ, suc, ◌+◌, ◌<◌, ◌⊎◌, true, false, List, length, Option, Some, None, Contains}
+use Rattle.std.proofs.Common.{refl, sym, ◌∙◌, inl, inr, arith}
 use Rattle.std.proofs.lemmas.Bool.{cases_Bool}
 use Rattle.std.proofs.lemmas.Option.{none-some}
 use Rattle.ir_model.specs.declared.function.Instr.{Instr}
@@ -18,7 +19,8 @@ use Rattle.ir_meaning.specs.State.{Event, State, is_running}
 use Rattle.ir_meaning.specs.Operands.{chosen}
 use Rattle.ir_meaning.specs.Effects.{Effect, Goes, Ends}
 use Rattle.ir_meaning.specs.Run.{GivesTo}
-use Rattle.ir_meaning.specs.Step.{Way, Enters, Leaves, way, effect, with_given, entered, after_effect, after_way, instr_at, carried_out, step}
+use Rattle.ir_meaning.specs.Step.{Way, Enters, Leaves, way, effect, with_given, entered, after_effect, after_way}
+use Rattle.ir_meaning.specs.Step.{instr_at, carried_out, step}
 use Rattle.never_stuck.proofs.Sound.{Holds, StandsIn, Sound}
 use Rattle.ir_model.specs.WellMade.{IsWellMade}
 use Rattle.ir_rules.specs.Accepted.{IsAccepted}

@@ -1,5 +1,6 @@
 -- Registers that hold values of their types, as they are set: by arguments, by results, and by phis.
-use Rattle.std.proofs.Common.{◌≡◌, ℕ, zero, suc, ◌==◌, ◌⊎◌, true, List, [], ◌∷◌, Option, Some, None, option_and_then, Contains, slice_get, refl, sym, ◌∙◌, inl, inr, ap, arith}
+use Rattle.std.proofs.Common.{◌≡◌, ℕ, zero, suc, ◌==◌, ◌⊎◌, true, List, [], ◌∷◌, Option, Some, None, option_and_then}
+use Rattle.std.proofs.Common.{Contains, slice_get, refl, sym, ◌∙◌, inl, inr, ap, arith}
 use Rattle.std.proofs.lemmas.Bool.{or_cases, cases_eq, eqb-true, eq-eqb, ne_eqb, cond-true, cond-false, false≢true}
 use Rattle.std.proofs.lemmas.Option.{none-some, same_Some}
 use Rattle.scev_base.specs.declared.ids.ValueId.{ValueId}

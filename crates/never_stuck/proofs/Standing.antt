@@ -1,5 +1,6 @@
 -- What a sound state stands at: an instruction, whose operands hold values.
-use Rattle.std.proofs.Common.{◌≡◌, ℕ, suc, ◌<◌, ◌⊎◌, true, false, List, length, Option, Some, option_and_then, option_map, unwrap_or, slice_get, sym, ◌∙◌, inl, inr, subst, ap, arith}
+use Rattle.std.proofs.Common.{◌≡◌, ℕ, suc, ◌<◌, ◌⊎◌, true, false, List, length, Option, Some, option_and_then}
+use Rattle.std.proofs.Common.{option_map, unwrap_or, slice_get, sym, ◌∙◌, inl, inr, subst, ap, arith}
 use Rattle.std.proofs.lemmas.Bool.{cases_lt, false≢true}
 use Rattle.std.proofs.lemmas.Option.{same_Some, slice_get_cases}
 use Rattle.scev_base.specs.declared.ids.BlockId.{BlockId}

@@ -1,7 +1,8 @@
 -- What an operation does that isn't a terminator, where the registers that it reads hold values of their types and
 -- memory has bytes: it gives a value of its type, or none where it has no result, and leaves bytes in memory; or its
 -- behaviour is undefined, or a call doesn't return.
-use Rattle.std.proofs.Common.{◌≡◌, ℕ, suc, ◌==◌, Bool, true, false, cond, ◌&&◌, ◌||◌, List, [], ◌∷◌, length, Option, Some, None, ◌⊎◌, inl, inr, refl}
+use Rattle.std.proofs.Common.{◌≡◌, ℕ, suc, ◌==◌, Bool, true, false, cond, ◌&&◌, ◌||◌, List, [], ◌∷◌, length, Option}
+use Rattle.std.proofs.Common.{Some, None, ◌⊎◌, inl, inr, refl}
 use Rattle.std.specs.Prelude.{nat_le, is_some}
 use Rattle.std.specs.List.{list_all, All}
 use Rattle.std.proofs.lemmas.Bool.{and_parts, or_cases, cond_both, eqb-true, false≢true, true≢false}
@@ -12,7 +13,8 @@ use Rattle.ir_model.specs.declared.types.IrType.TheVariants.{Void, Int, Ptr, Arr
 use Rattle.ir_model.specs.declared.op.Operand.{Operand}
 use Rattle.ir_model.specs.declared.op.TypedOperand.{TypedOperand}
 use Rattle.ir_model.specs.declared.op.Op.{Op}
-use Rattle.ir_model.specs.declared.op.Op.TheVariants.{Phi, Alloca, Load, Store, Gep, Call, Jump, Branch, Switch, Ret, Unreachable}
+use Rattle.ir_model.specs.declared.op.Op.TheVariants.{Phi, Alloca, Load, Store, Gep, Call, Jump, Branch, Switch, Ret}
+use Rattle.ir_model.specs.declared.op.Op.TheVariants.{Unreachable}
 use Rattle.ir_model.specs.declared.function.Instr.{Instr}
 use Rattle.ir_model.specs.declared.function.Function.{Function}
 use Rattle.ir_model.specs.declared.signature.Signatures.{Signatures}
@@ -21,7 +23,8 @@ use Rattle.ir_model.specs.Defined.{given_type}
 use Rattle.ir_model.specs.Kinds.{IsInt, IsScalar, IsReturned}
 use Rattle.ir_model.specs.Shapes.{operands, is_void, is_terminator, is_phi}
 use Rattle.ir_model.specs.WellMade.{IsFormed, IsResultOf}
-use Rattle.ir_rules.specs.Types.{fits, is_int, is_whole, at_type, dimensions, operands_fit, types_agree, types_fit, widths_fit}
+use Rattle.ir_rules.specs.Types.{fits, is_int, is_whole, at_type, dimensions, operands_fit, types_agree, types_fit}
+use Rattle.ir_rules.specs.Types.{widths_fit}
 use Rattle.ir_rules.specs.Values.{misuses_pointer, call_fits}
 use Rattle.ir_memory.specs.declared.loaded.Loaded.{Loaded}
 use Rattle.ir_memory.specs.declared.loaded.Loaded.TheVariants as loaded
@@ -38,8 +41,10 @@ use Rattle.ir_meaning.specs.State.{Registers, State}
 use Rattle.ir_meaning.specs.Values.{is_of_type}
 use Rattle.ir_meaning.specs.Operands.{chosen, operand_value}
 use Rattle.ir_meaning.specs.Effects.{Effect, Goes, Ends, with_operand, with_operands}
-use Rattle.ir_meaning.specs.Accesses.{type_size, value_loaded, value_stored, loaded_at, stored_at, index_value, index_values, index_steps, parts_of, address_by, addressed, widened}
-use Rattle.ir_meaning.specs.Calls.{Answered, answered_number, answered, value_answers, may_answer, answer_given, argument_values, outside_call}
+use Rattle.ir_meaning.specs.Accesses.{type_size, value_loaded, value_stored, loaded_at, stored_at, index_value}
+use Rattle.ir_meaning.specs.Accesses.{index_values, index_steps, parts_of, address_by, addressed, widened}
+use Rattle.ir_meaning.specs.Calls.{Answered, answered_number, answered, value_answers, may_answer, answer_given}
+use Rattle.ir_meaning.specs.Calls.{argument_values, outside_call}
 use Rattle.ir_meaning.specs.Step.{Computed, computed, gone, effect}
 use Rattle.never_stuck.proofs.Sound.{HoldsOperands, Facts}
 use Rattle.never_stuck.proofs.Registers.{fit_typed}

@@ -1,6 +1,7 @@
 -- What an operation gives is a value of its type, or its behaviour is undefined, where the registers that it reads hold
 -- values of their types; and a terminator leads to one of its targets, or the run ends.
-use Rattle.std.proofs.Common.{◌≡◌, ◌≢◌, ℕ, zero, suc, ◌%◌, ◌^◌, Bool, true, false, cond, not, ◌&&◌, ◌||◌, List, [], ◌∷◌, map, Option, Some, None, Contains, ◌⊎◌, inl, inr, refl, ap, sym, subst, arith}
+use Rattle.std.proofs.Common.{◌≡◌, ◌≢◌, ℕ, zero, suc, ◌%◌, ◌^◌, Bool, true, false, cond, not, ◌&&◌, ◌||◌, List, [], ◌∷◌}
+use Rattle.std.proofs.Common.{map, Option, Some, None, Contains, ◌⊎◌, inl, inr, refl, ap, sym, subst, arith}
 use Rattle.std.specs.Prelude.{◌==◌, is_some}
 use Rattle.std.proofs.lemmas.Bool.{and_parts, eqb-true, false≢true, true≢false}
 use Rattle.scev_base.specs.declared.ids.BlockId.{BlockId}
@@ -18,7 +19,8 @@ use Rattle.ir_model.specs.declared.op.Operand.TheVariants as operand
 use Rattle.ir_model.specs.declared.op.TypedOperand.{TypedOperand}
 use Rattle.ir_model.specs.declared.op.Case.{Case}
 use Rattle.ir_model.specs.declared.op.Op.{Op}
-use Rattle.ir_model.specs.declared.op.Op.TheVariants.{Binary, Icmp, Cast, Select, Phi, Freeze, Alloca, Load, Store, Gep, Call, Jump, Branch, Switch, Ret, Unreachable}
+use Rattle.ir_model.specs.declared.op.Op.TheVariants.{Binary, Icmp, Cast, Select, Phi, Freeze, Alloca, Load, Store, Gep}
+use Rattle.ir_model.specs.declared.op.Op.TheVariants.{Call, Jump, Branch, Switch, Ret, Unreachable}
 use Rattle.ir_model.specs.declared.function.Instr.{Instr}
 use Rattle.ir_model.specs.declared.function.Function.{Function}
 use Rattle.ir_model.specs.declared.signature.Signatures.{Signatures}
@@ -27,7 +29,8 @@ use Rattle.ir_model.specs.Defined.{given_type}
 use Rattle.ir_model.specs.Kinds.{IsScalar}
 use Rattle.ir_model.specs.Shapes.{operands, targets, is_terminator}
 use Rattle.ir_model.specs.WellMade.{IsFormed}
-use Rattle.ir_rules.specs.Types.{kind_of, same_type, fits, is_int, at_type, wanted, operands_fit, types_agree, types_fit, is_wide, converts, widths_fit}
+use Rattle.ir_rules.specs.Types.{kind_of, same_type, fits, is_int, at_type, wanted, operands_fit, types_agree}
+use Rattle.ir_rules.specs.Types.{types_fit, is_wide, converts, widths_fit}
 use Rattle.ir_rules.specs.Values.{misuses_pointer, same_types, kinds_of, is_min_max_of, call_fits}
 use Rattle.ir_meaning.specs.declared.value.Value.{Value}
 use Rattle.ir_meaning.specs.declared.value.Value.TheVariants as value
@@ -37,10 +40,12 @@ use Rattle.ir_meaning.specs.State.{Registers}
 use Rattle.ir_meaning.specs.Values.{is_of_type}
 use Rattle.ir_meaning.specs.Operands.{operand_value, of_type}
 use Rattle.ir_meaning.specs.Rows.{on_numbers, compared, binary_row, converted, min_max_row, compared_pointers}
-use Rattle.ir_meaning.specs.Step.{Computed, Gives, Fails, with_value, given, arm_value, chosen_arm, called, frozen, computed, Way, Enters, Leaves, by_value, branched, case_target, switched, way}
+use Rattle.ir_meaning.specs.Step.{Computed, Gives, Fails, with_value, given, arm_value, chosen_arm, called, frozen}
+use Rattle.ir_meaning.specs.Step.{computed, Way, Enters, Leaves, by_value, branched, case_target, switched, way}
 use Rattle.never_stuck.proofs.Elements.{contains_more}
 use Rattle.never_stuck.proofs.Sound.{Holds, HoldsOperands, Facts}
-use Rattle.never_stuck.proofs.TypedRows.{mod_typed, residue_typed, binary_typed, compared_typed, min_max_typed, pointers_typed, converted_typed}
+use Rattle.never_stuck.proofs.TypedRows.{mod_typed, residue_typed, binary_typed, compared_typed, min_max_typed}
+use Rattle.never_stuck.proofs.TypedRows.{pointers_typed, converted_typed}
 
 -- ---- types
 

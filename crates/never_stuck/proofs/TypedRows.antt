@@ -1,5 +1,6 @@
 -- Each row gives a value of its type.
-use Rattle.std.proofs.Common.{◌≡◌, ℕ, ◌+◌, ◌-◌, ◌*◌, ◌/◌, ◌%◌, ◌^◌, ◌<◌, ◌≤◌, Bool, true, false, cond, ◌&&◌, Option, Some, None, ℤ, pos, negsuc, bit_and, bit_or, bit_xor, refl, arith}
+use Rattle.std.proofs.Common.{◌≡◌, ℕ, ◌+◌, ◌-◌, ◌*◌, ◌/◌, ◌%◌, ◌^◌, ◌<◌, ◌≤◌, Bool, true, false, cond, ◌&&◌, Option}
+use Rattle.std.proofs.Common.{Some, None, ℤ, pos, negsuc, bit_and, bit_or, bit_xor, refl, arith}
 use Rattle.std.specs.Prelude.{◌==◌, nat_le, int_le, int_div, int_rem}
 use Rattle.std.specs.Int.{int_div_euclid}
 use Rattle.std.proofs.Math.Nat.{div-le_self, mod-le}
@@ -20,7 +21,9 @@ use Rattle.ir_rules.specs.Types.{converts}
 use Rattle.ir_meaning.specs.declared.value.Value.{Value}
 use Rattle.ir_meaning.specs.declared.value.Value.TheVariants as value
 use Rattle.ir_meaning.specs.Values.{is_of_type}
-use Rattle.ir_meaning.specs.Rows.{on_numbers, compared, holds, binary_row, by_divisor, by_signed_divisor, is_minus_one, may_be_least, converted, min_max_row, same_pointer, same_answer, answered, compared_pointers}
+use Rattle.ir_meaning.specs.Rows.{on_numbers, compared, holds, binary_row, by_divisor, by_signed_divisor, is_minus_one}
+use Rattle.ir_meaning.specs.Rows.{may_be_least, converted, min_max_row, same_pointer, same_answer, answered}
+use Rattle.ir_meaning.specs.Rows.{compared_pointers}
 
 -- ---- numbers of a width
 

@@ -2,7 +2,8 @@
 #![tactic(auto)]
 
 use scev_outside::{StdErr, StdSink, StdSource, write_all};
-use scev_tool::{Status, Word, run};
+use scev_tool::{Status, run};
+use scev_words::Word;
 use std::io::ErrorKind;
 use std::process::ExitCode;
 use std::rt::Env;

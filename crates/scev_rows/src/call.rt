@@ -1,7 +1,8 @@
 //! A call of the tool over objects in memory.
 
 use scev_outside::{MemorySink, MemorySource};
-use scev_tool::{Status, Word, run};
+use scev_tool::{Status, run};
+use scev_words::Word;
 use std::alloc::{AllocError, Global};
 
 /// Room for all that a row writes, in bytes.
@@ -54,12 +55,22 @@ pub fn sink(alloc: Global) -> Result<MemorySink, AllocError> {
 
 /// `print` over these bytes, with objects that never fail.
 pub fn print(alloc: Global, input: &[u8]) -> Result<Outcome, AllocError> {
-    one_word(alloc, "print", input)
+    plain_call(alloc, &["print"], input)
 }
 
 /// Whether `print` over the input writes this text, and nothing else.
 pub fn printed(alloc: Global, input: &str, text: &str) -> Result<bool, AllocError> {
-    let outcome = print(alloc, input.as_bytes())?;
+    writes(alloc, input, &["print"], text)
+}
+
+/// Whether `print` over the input refuses it with this line, and writes nothing else.
+pub fn refused(alloc: Global, input: &str, line: &str) -> Result<bool, AllocError> {
+    refuses(alloc, input, &["print"], line)
+}
+
+/// Whether the words over the input write this text, and nothing else.
+pub fn writes(alloc: Global, input: &str, words: &[&str], text: &str) -> Result<bool, AllocError> {
+    let outcome = plain_call(alloc, words, input.as_bytes())?;
     Ok(
         outcome.status == Status::Done
             && outcome.out.as_slice() == text.as_bytes()
@@ -67,9 +78,9 @@ pub fn printed(alloc: Global, input: &str, text: &str) -> Result<bool, AllocErro
     )
 }
 
-/// Whether `print` over the input refuses it with this line, and writes nothing else.
-pub fn refused(alloc: Global, input: &str, line: &str) -> Result<bool, AllocError> {
-    let outcome = print(alloc, input.as_bytes())?;
+/// Whether the words over the input are refused with this line, and nothing else is written.
+pub fn refuses(alloc: Global, input: &str, words: &[&str], line: &str) -> Result<bool, AllocError> {
+    let outcome = plain_call(alloc, words, input.as_bytes())?;
     let mut wanted = Vec::from_slice(alloc, line.as_bytes())?;
     wanted.push(b'\n')?;
     Ok(
@@ -81,13 +92,14 @@ pub fn refused(alloc: Global, input: &str, line: &str) -> Result<bool, AllocErro
 
 /// `report` over these bytes, with objects that never fail.
 pub fn report(alloc: Global, input: &[u8]) -> Result<Outcome, AllocError> {
-    one_word(alloc, "report", input)
+    plain_call(alloc, &["report"], input)
 }
 
-fn one_word(alloc: Global, word: &str, input: &[u8]) -> Result<Outcome, AllocError> {
+/// A call with the words over these bytes, with objects that never fail.
+fn plain_call(alloc: Global, words: &[&str], input: &[u8]) -> Result<Outcome, AllocError> {
     call(
         alloc,
-        &[word],
+        words,
         source(alloc, input)?,
         sink(alloc)?,
         sink(alloc)?,

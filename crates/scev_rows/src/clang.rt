@@ -1,6 +1,6 @@
-//! `print` on what clang wrote, with shorter lists of attributes.
+//! What clang wrote, with shorter lists of attributes, printed and run.
 
-use crate::call::printed;
+use crate::call::{printed, writes};
 use std::test::Fail;
 
 /// A section, words of globals and of functions, and metadata.
@@ -259,6 +259,22 @@ fn prints_what_clang_wrote(rt: HostRuntime) -> Result<(), Fail> {
         (SUM, SUM_PRINTED),
     ] {
         assert!(rt; printed(rt.alloc(), input, text)?, "{input}");
+    }
+    Ok(())
+}
+
+#[test]
+fn runs_what_clang_wrote(rt: HostRuntime) -> Result<(), Fail> {
+    let words = ["eval", "--function", "sum", "--args", "b12,3"];
+    for input in [SUM, SUM_PRINTED] {
+        assert!(rt;
+            writes(
+                rt.alloc(),
+                input,
+                &words,
+                "returned 0\nsteps 23\nevents 0\n"
+            )?
+        );
     }
     Ok(())
 }

@@ -10,7 +10,7 @@ const SMALL: &[u8] = b"define i32 @f(){a: ret i32 7}";
 
 const SMALL_PRINTED: &[u8] = b"define i32 @f() {\na:\n  ret i32 7\n}\n";
 
-const WRONG_WORDS: [&[&str]; 7] = [
+const WRONG_WORDS: [&[&str]; 20] = [
     &[],
     &["Print"],
     &["print", "print"],
@@ -18,6 +18,20 @@ const WRONG_WORDS: [&[&str]; 7] = [
     &["--print"],
     &["print", "report"],
     &["reports"],
+    &["report", "--steps", "5"],
+    // A run wants the word, the name of a function, and each option at most once and with a value.
+    &["eval"],
+    &["--function", "f"],
+    &["eval", "eval", "--function", "f"],
+    &["eval", "--function"],
+    &["eval", "--function="],
+    &["eval", "--function", ""],
+    &["eval", "--function", "--args"],
+    &["eval", "--function", "f", "--function", "f"],
+    &["eval", "--function", "f", "--turns", "5"],
+    &["eval", "--function", "f", "--steps", "1000001"],
+    &["eval", "--function", "f", "--steps", "x"],
+    &["eval", "--function", "f", "g"],
 ];
 
 fn one(alloc: Global, number: u64) -> Result<Vec<u64>, AllocError> {

@@ -8,6 +8,8 @@ mod call;
 #[cfg(test)]
 mod clang;
 #[cfg(test)]
+mod eval;
+#[cfg(test)]
 mod examples;
 #[cfg(test)]
 mod faults;

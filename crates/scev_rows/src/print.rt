@@ -61,12 +61,28 @@ const PRINTED: [(&str, &str); 19] = [
     // Names of every byte that a word may have, and a value and a block of one name.
     (
         "define i32 @$._-9(i32 %a-){a-:%_ = icmp sge i32 1, %a- br i1 %_, label %a--, label %q a--:br label %q q:ret i32%a-}",
-        "define i32 @$._-9(i32 %a-) {\na-:\n  %_ = icmp sge i32 1, %a-\n  br i1 %_, label %a--, label %q\na--:\n  br label %q\nq:\n  ret i32 %a-\n}\n",
+        "define i32 @$._-9(i32 %a-) {
+a-:
+  %_ = icmp sge i32 1, %a-
+  br i1 %_, label %a--, label %q
+a--:
+  br label %q
+q:
+  ret i32 %a-
+}
+",
     ),
     // Two entries of a phi for one block, which has two edges.
     (
         "define i32 @f(i1 %c){a:br i1%c,label%b,label%b b:%p=phi i32[1,%a],[1,%a]ret i32%p}",
-        "define i32 @f(i1 %c) {\na:\n  br i1 %c, label %b, label %b\nb:\n  %p = phi i32 [ 1, %a ], [ 1, %a ]\n  ret i32 %p\n}\n",
+        "define i32 @f(i1 %c) {
+a:
+  br i1 %c, label %b, label %b
+b:
+  %p = phi i32 [ 1, %a ], [ 1, %a ]
+  ret i32 %p
+}
+",
     ),
     // Nothing but gaps is a module without items.
     ("", ""),

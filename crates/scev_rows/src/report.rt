@@ -56,7 +56,12 @@ l: %i = phi i32 [ %j, %l ], [ 2147483648, %a ]
 %j = add nuw nsw i32 2147483647, %i %m = add nsw i32 %k, 2147483648
 %d = icmp ne i32 %j, %n br i1 %d, label %l, label %e
 e: ret i32 %i}",
-        "; scev report 1\n; function @f\n; loop %l depth 1\n; phi %i = {-2147483648,+,2147483647}<%l>\n; phi %k = {2147483647,+,-2147483648}<%l>\n",
+        "; scev report 1
+; function @f
+; loop %l depth 1
+; phi %i = {-2147483648,+,2147483647}<%l>
+; phi %k = {2147483647,+,-2147483648}<%l>
+",
     ),
     // A step of zero.
     (
@@ -72,7 +77,13 @@ r: %i = phi i32 [ 0, %s ], [ %j, %r ] %j = add i32 %i, 1
 s: %k = phi i32 [ 9, %a ], [ %m, %s ] %m = add i32 %k, -1
 %d = icmp ne i32 %m, 0 br i1 %d, label %s, label %r
 e: ret i32 %i}",
-        "; scev report 1\n; function @f\n; loop %r depth 1\n; phi %i = {0,+,1}<%r>\n; loop %s depth 1\n; phi %k = {9,+,-1}<%s>\n",
+        "; scev report 1
+; function @f
+; loop %r depth 1
+; phi %i = {0,+,1}<%r>
+; loop %s depth 1
+; phi %k = {9,+,-1}<%s>
+",
     ),
     // A block with an edge to itself is no such loop where a second walk leads back to it.
     (

@@ -63,7 +63,15 @@ const IN_FUNCTIONS: [(&str, &str); 29] = [
         "scev: rule EntryHasPredecessor in @f: %a",
     ),
     (
-        "define void @f(i32 %x) {\na:\n  br label %b\nb:\n  %v = add i32 %x, 1\n  %p = phi i32 [ %x, %a ]\n  ret void\n}\n",
+        "define void @f(i32 %x) {
+a:
+  br label %b
+b:
+  %v = add i32 %x, 1
+  %p = phi i32 [ %x, %a ]
+  ret void
+}
+",
         "scev: rule PhiNotFirst in @f: %p",
     ),
     (
@@ -71,7 +79,14 @@ const IN_FUNCTIONS: [(&str, &str); 29] = [
         "scev: rule PhiEntries in @f: %p",
     ),
     (
-        "define void @f(i1 %c) {\na:\n  br i1 %c, label %b, label %b\nb:\n  %p = phi i8 [ 1, %a ], [ 2, %a ]\n  ret void\n}\n",
+        "define void @f(i1 %c) {
+a:
+  br i1 %c, label %b, label %b
+b:
+  %p = phi i8 [ 1, %a ], [ 2, %a ]
+  ret void
+}
+",
         "scev: rule PhiEntries in @f: %p",
     ),
     // Single operations.
@@ -80,7 +95,16 @@ const IN_FUNCTIONS: [(&str, &str); 29] = [
         "scev: rule VoidValue in @f: %v",
     ),
     (
-        "define void @f(i8 %x) {\na:\n  switch i8 %x, label %b [\n    i8 255, label %b\n    i8 -1, label %b\n  ]\nb:\n  ret void\n}\n",
+        "define void @f(i8 %x) {
+a:
+  switch i8 %x, label %b [
+    i8 255, label %b
+    i8 -1, label %b
+  ]
+b:
+  ret void
+}
+",
         "scev: rule DuplicateCase in @f: %a",
     ),
     (
@@ -110,7 +134,16 @@ const IN_FUNCTIONS: [(&str, &str); 29] = [
     ),
     // A definition that a walk goes around, one that comes later in the block, and one that a phi reads too early.
     (
-        "define i32 @f(i1 %b) {\nentry:\n  br i1 %b, label %x, label %y\nx:\n  %v = add i32 1, 2\n  br label %y\ny:\n  ret i32 %v\n}\n",
+        "define i32 @f(i1 %b) {
+entry:
+  br i1 %b, label %x, label %y
+x:
+  %v = add i32 1, 2
+  br label %y
+y:
+  ret i32 %v
+}
+",
         "scev: rule UseBeforeDef in @f: %v in %y",
     ),
     (
@@ -127,7 +160,18 @@ const IN_FUNCTIONS: [(&str, &str); 29] = [
         "scev: rule TypeMismatch in @f: %a",
     ),
     (
-        "define i32 @f() {\na:\n  ret i32 0\n}\ndefine i32 @\"g h\"() {\n  ret i64 0\n}\ndefine i32 @k() {\na:\n  ret i32 %y\n}\n",
+        "define i32 @f() {
+a:
+  ret i32 0
+}
+define i32 @\"g h\"() {
+  ret i64 0
+}
+define i32 @k() {
+a:
+  ret i32 %y
+}
+",
         "scev: rule ReturnType in @\"g h\": %0",
     ),
 ];
@@ -161,16 +205,57 @@ const IN_ITEMS: [(&str, &str); 7] = [
 /// What breaks none, though it looks like it; it is printed as it stands.
 const ACCEPTED: [&str; 7] = [
     // A definition that is passed on every walk, and a block that no walk reaches.
-    "define i32 @f(i1 %b) {\nentry:\n  br i1 %b, label %x, label %y\nx:\n  br label %y\ny:\n  br i1 %b, label %x, label %loop\nloop:\n  %i = phi i32 [ 0, %y ], [ %i.next, %loop ]\n  %i.next = add i32 %i, 1\n  %c = icmp ult i32 %i, 7\n  br i1 %c, label %loop, label %exit\nexit:\n  ret i32 %i\ndead:\n  %z = add i32 %z, 1\n  br label %exit\n}\n",
+    "define i32 @f(i1 %b) {
+entry:
+  br i1 %b, label %x, label %y
+x:
+  br label %y
+y:
+  br i1 %b, label %x, label %loop
+loop:
+  %i = phi i32 [ 0, %y ], [ %i.next, %loop ]
+  %i.next = add i32 %i, 1
+  %c = icmp ult i32 %i, 7
+  br i1 %c, label %loop, label %exit
+exit:
+  ret i32 %i
+dead:
+  %z = add i32 %z, 1
+  br label %exit
+}
+",
     // Two edges of one block with equal operands, read modulo 2^8.
-    "define i8 @f(i1 %c) {\na:\n  br i1 %c, label %b, label %b\nb:\n  %p = phi i8 [ -1, %a ], [ -1, %a ]\n  ret i8 %p\n}\n",
+    "define i8 @f(i1 %c) {
+a:
+  br i1 %c, label %b, label %b
+b:
+  %p = phi i8 [ -1, %a ], [ -1, %a ]
+  ret i8 %p
+}
+",
     // A value and a block of one name.
     "define i32 @f(i32 %x) {\nx:\n  ret i32 %x\n}\n",
     // A minimum needs no declaration, and may have one.
     "define i32 @f(i32 %x) {\na:\n  %v = call i32 @llvm.umin.i32(i32 %x, i32 2)\n  ret i32 %v\n}\n",
-    "declare i8 @llvm.smax.i8(i8, i8)\ndefine i8 @f(i8 %x) {\na:\n  %v = call i8 @llvm.smax.i8(i8 %x, i8 2)\n  ret i8 %v\n}\n",
+    "declare i8 @llvm.smax.i8(i8, i8)
+define i8 @f(i8 %x) {
+a:
+  %v = call i8 @llvm.smax.i8(i8 %x, i8 2)
+  ret i8 %v
+}
+",
     // A phi that reads a value of its own block, and numerals next to the limits.
-    "define i8 @f(i1 %c) {\na:\n  br label %b\nb:\n  %p = phi i8 [ -128, %a ], [ %v, %b ]\n  %v = add i8 %p, 127\n  br i1 %c, label %b, label %d\nd:\n  ret i8 %v\n}\n",
+    "define i8 @f(i1 %c) {
+a:
+  br label %b
+b:
+  %p = phi i8 [ -128, %a ], [ %v, %b ]
+  %v = add i8 %p, 127
+  br i1 %c, label %b, label %d
+d:
+  ret i8 %v
+}
+",
     "@g = global [2 x i16] [i16 1, i16 -32768]\n@h = external global [3 x [4 x i8]]\n",
 ];
 

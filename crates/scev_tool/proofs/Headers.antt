@@ -1,5 +1,6 @@
 -- Headers of loops, met in one walk over the blocks.
-use Rattle.std.proofs.Common.{◌≡◌, ◌==◌, ℕ, ◌+◌, ◌<◌, ◌≤◌, true, List, length, Bool, Some, slice_get, get_or, inl, inr, refl, sym, ◌∙◌, ap, arith}
+use Rattle.std.proofs.Common.{◌≡◌, ◌==◌, ℕ, ◌+◌, ◌<◌, ◌≤◌, true, List, length, Bool, Some, slice_get, get_or, inl, inr}
+use Rattle.std.proofs.Common.{refl, sym, ◌∙◌, ap, arith}
 use Rattle.std.specs.Prelude.{Contains, position}
 use Rattle.std.specs.List.{position_or_len}
 use Rattle.std.proofs.lemmas.Bool.{lt-ltb, eqb-true, eq-eqb}
@@ -17,7 +18,8 @@ use Rattle.loop_regions.specs.OneBlock.{AreLoops}
 abbrev pub place_of : List Block → ℕ → ℕ
 place_of blocks b = position_or_len (λ block. block.id.0 == b) blocks
 
-position-is : {X : Type 0} (p : X → Bool) (xs : List X) → position_or_len p xs < length xs → position p xs ≡ Some (position_or_len p xs)
+position-is : {X : Type 0} (p : X → Bool) (xs : List X) → position_or_len p xs < length xs
+    → position p xs ≡ Some (position_or_len p xs)
 position-is p xs within = rw (lt-ltb _ _ within) refl
 
 module _ (f : Function) (headers : List BlockId) (are : AreLoops f headers) where
@@ -29,7 +31,8 @@ module _ (f : Function) (headers : List BlockId) (are : AreLoops f headers) wher
       slice_get_within f.blocks _ back.0 (sym (find_at (λ (block : Block). block.id.0 == b.0) f.blocks) ∙ back.1)
 
   -- the next header stands further on
-  pub next_further : (k : ℕ) (b c : BlockId) → slice_get headers k ≡ Some b → slice_get headers (k + 1) ≡ Some c → place_of f.blocks b.0 < place_of f.blocks c.0
+  pub next_further : (k : ℕ) (b c : BlockId) → slice_get headers k ≡ Some b → slice_get headers (k + 1) ≡ Some c
+      → place_of f.blocks b.0 < place_of f.blocks c.0
   next_further k b c at next =
       let before = are.ordered k (k + 1) b (omega arith) (slice_get_within headers (k + 1) c next) in
       let first : get_or headers k b ≡ b = get_or_from_slice_get headers k b b at in
@@ -38,16 +41,19 @@ module _ (f : Function) (headers : List BlockId) (are : AreLoops f headers) wher
       before (place_of f.blocks b.0) (place_of f.blocks c.0) (position-is _ f.blocks (header_within k b at)) (position-is _ f.blocks (header_within (k + 1) c next))
 
 -- The block at a place has a number that none of those before it has: it is the first one.
-pub place_is : (blocks : List Block) (i : ℕ) (d : Block) (b : ℕ) → i < length blocks → i ≤ place_of blocks b → (get_or blocks i d).id.0 ≡ b → place_of blocks b ≡ i
+pub place_is : (blocks : List Block) (i : ℕ) (d : Block) (b : ℕ) → i < length blocks → i ≤ place_of blocks b
+    → (get_or blocks i d).id.0 ≡ b → place_of blocks b ≡ i
 place_is blocks i d b within later same =
     position_or_len_is (λ block. block.id.0 == b) blocks i d (omega (arith, within)) (λ k before. fails_before_first (λ block. block.id.0 == b) blocks k d (omega (arith, before, later))) (λ _. eq-eqb _ _ same)
 
-pub found_at : (f : Function) (i : ℕ) (d : Block) (b : ℕ) → i < length f.blocks → place_of f.blocks b ≡ i → block_of f b ≡ Some (get_or f.blocks i d)
+pub found_at : (f : Function) (i : ℕ) (d : Block) (b : ℕ) → i < length f.blocks → place_of f.blocks b ≡ i
+    → block_of f b ≡ Some (get_or f.blocks i d)
 found_at f i d b within is =
     find_at (λ (block : Block). block.id.0 == b) f.blocks ∙ ap (slice_get f.blocks) is ∙ slice_get-get_or f.blocks i d within
 
 -- A block of another number leaves the place further on.
-pub place_past : (blocks : List Block) (i : ℕ) (d : Block) (b : ℕ) → i < length blocks → i ≤ place_of blocks b → ((get_or blocks i d).id.0 ≡ b → ⊥) → i + 1 ≤ place_of blocks b
+pub place_past : (blocks : List Block) (i : ℕ) (d : Block) (b : ℕ) → i < length blocks → i ≤ place_of blocks b
+    → ((get_or blocks i d).id.0 ≡ b → ⊥) → i + 1 ≤ place_of blocks b
 place_past blocks i d b within later other =
     elim (eqb_tells (place_of blocks b) i) [
       | inl here ↦
@@ -67,17 +73,21 @@ module _ (f : Function) (headers : List BlockId) (are : AreLoops f headers) (don
       found_at f i x x.id.0 within (here at) ∙ ap Some (sym is)
 
   -- the header after it stands further on
-  pub later_after : slice_get headers done ≡ Some x.id → (b : BlockId) → slice_get headers (done + 1) ≡ Some b → i + 1 ≤ place_of f.blocks b.0
+  pub later_after : slice_get headers done ≡ Some x.id → (b : BlockId) → slice_get headers (done + 1) ≡ Some b
+      → i + 1 ≤ place_of f.blocks b.0
   later_after at b next =
       omega (arith, here at, next_further f headers are done x.id b at next)
 
   -- where the block is no header that is looked for, that one stands further on
-  pub later_past : (slice_get headers done ≡ Some x.id → ⊥) → (b : BlockId) → slice_get headers done ≡ Some b → i + 1 ≤ place_of f.blocks b.0
+  pub later_past : (slice_get headers done ≡ Some x.id → ⊥) → (b : BlockId) → slice_get headers done ≡ Some b
+      → i + 1 ≤ place_of f.blocks b.0
   later_past other b at =
       place_past f.blocks i x b.0 within (later b at) (λ same. other (at ∙ ap (λ n. Some (record { 0 = n })) (sym same ∙ ap (λ (block : Block). block.id.0) (sym is))))
 
 -- behind all blocks no header is left
-pub none_left : (f : Function) (headers : List BlockId) → AreLoops f headers → (done i : ℕ) → length f.blocks ≤ i → done ≤ length headers → ((b : BlockId) → slice_get headers done ≡ Some b → i ≤ place_of f.blocks b.0) → done ≡ length headers
+pub none_left : (f : Function) (headers : List BlockId) → AreLoops f headers → (done i : ℕ) → length f.blocks ≤ i
+    → done ≤ length headers → ((b : BlockId) → slice_get headers done ≡ Some b → i ≤ place_of f.blocks b.0)
+    → done ≡ length headers
 none_left f headers are done i end in_list later =
     elim (slice_get_cases headers done).1 [
       | inl there ↦

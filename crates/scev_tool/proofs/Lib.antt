@@ -6,5 +6,4 @@ pub mod Phis
 pub mod Pieces
 pub mod Recurrences
 pub mod Texts
-pub mod Words
 pub mod FunctionLines

@@ -15,7 +15,8 @@ use Rattle.ir_grammar.specs.Printing.{Shown, shown_in}
 use Rattle.scev_tool.specs.Report.{InPieces, IsPhiLine, AreLoopLines, AreLoopsLines, AreItemLines, IsReport}
 
 -- Pieces that are determined by their things make one text.
-one_text : {A : Type 0} (Is : A → List ℕ → Type 0) → ((x : A) (s t : List ℕ) → Is x s → Is x t → s ≡ t) → (xs : List A) (s t : List ℕ) → InPieces Is xs s → InPieces Is xs t → s ≡ t
+one_text : {A : Type 0} (Is : A → List ℕ → Type 0) → ((x : A) (s t : List ℕ) → Is x s → Is x t → s ≡ t)
+    → (xs : List A) (s t : List ℕ) → InPieces Is xs s → InPieces Is xs t → s ≡ t
 one_text Is one [] s t is_s is_t = is_s ∙ sym is_t
 one_text Is one (x ∷ xs) s t is_s is_t =
     let piece : is_s.0 ≡ is_t.0 = one x is_s.0 is_t.0 is_s.3 is_t.3 in

@@ -1,5 +1,6 @@
 -- What is known of the parts of a recurrence.
-use Rattle.std.proofs.Common.{IfSome, None, ◌≡◌, ◌≢◌, ℕ, ◌<◌, ◌^◌, List, [], ◌∷◌, Option, Some, ℤ, pos, negsuc, inl, inr, refl, arith}
+use Rattle.std.proofs.Common.{IfSome, None, ◌≡◌, ◌≢◌, ℕ, ◌<◌, ◌^◌, List, [], ◌∷◌, Option, Some, ℤ, pos, negsuc, inl}
+use Rattle.std.proofs.Common.{inr, refl, arith}
 use Rattle.std.specs.Prelude.{All}
 use Rattle.std.proofs.lemmas.List.Elements.{All-head}
 use Rattle.scev_base.specs.Residue.{residue}
@@ -24,7 +25,8 @@ numeral-lt n (operand.Global g) h = absurd h
 numeral-lt n operand.Undef h = absurd h
 numeral-lt n operand.Poison h = absurd h
 
-start-lt : (n : ℕ) (entries : List PhiEntry) → entries ≢ [] → All (λ entry. IsNumeral n entry.value) entries → n < 2 ^ 32
+start-lt : (n : ℕ) (entries : List PhiEntry) → entries ≢ [] → All (λ entry. IsNumeral n entry.value) entries
+    → n < 2 ^ 32
 start-lt n [] some all = absurd (some refl)
 start-lt n (entry ∷ entries) some all =
     numeral-lt n entry.value (All-head (λ (e : PhiEntry). IsNumeral n e.value) entry entries all)

@@ -1,14 +1,18 @@
 -- What a call answers, status by status.
 use Rattle.std.specs.Prelude.{◌≡◌, ℕ, ◌<◌, ◌≤◌, List, [], length, Option, Some, IfSome}
 use Rattle.ir_model.specs.declared.item.Module.{Module}
-use Rattle.ir_rules.specs.Accepted.{IsFault}
+use Rattle.ir_rules.specs.Accepted.{IsAcceptedModule, IsFault}
 use Rattle.ir_grammar.specs.Spelled.{Spells, IsNotInGrammar, IsUnsupported}
 use Rattle.scev_outside.specs.Bytes.{Appended, AppendedFront}
 use Rattle.scev_outside.specs.Faults.{Rose}
-use Rattle.scev_tool.specs.declared.mode.Mode.{Mode}
 use Rattle.scev_tool.specs.declared.status.Status.{Status}
-use Rattle.scev_tool.specs.declared.status.Status.TheVariants.{Done, Usage, ReadFault, TooLong, NotInGrammar, Unsupported, Ill, WriteFault, OutOfMemory}
-use Rattle.scev_tool.specs.Mode.{AskFor, IsTextOf}
+use Rattle.scev_tool.specs.declared.status.Status.TheVariants.{Done, Usage, ReadFault, TooLong, NotInGrammar}
+use Rattle.scev_tool.specs.declared.status.Status.TheVariants.{Unsupported, Ill, NoFunction, BadArgs, WriteFault}
+use Rattle.scev_tool.specs.declared.status.Status.TheVariants.{OutOfMemory}
+use Rattle.eval_request.specs.Asked.{Asked}
+use Rattle.ir_eval.specs.Outcome.{HasNoFunction, HasBadArgs}
+use Rattle.scev_words.specs.Modes.{Mode, Eval, AskFor}
+use Rattle.scev_tool.specs.Mode.{IsTextOf}
 
 -- What is seen of a call: its words, what the source had left and what the output had taken, before and after, and the
 -- counts of faults of both. None is the content of an object that doesn't tell it.
@@ -44,7 +48,12 @@ WritesPrefix seen mode bytes =
 abbrev pub Asked : Seen → (Mode → Type 0) → Type 0
 Asked seen Holds = (mode : Mode) × AskFor mode seen.words × Holds mode
 
--- When each status comes. Those that have no row here never do.
+-- The words ask for a run of a module that is accepted, of which this holds.
+abbrev pub AskedOfModule : Seen → (Module → Asked → Type 0) → Type 0
+AskedOfModule seen Holds = (asked : Asked) × AskFor (Eval asked) seen.words
+    × OfInput seen (λ bytes. (m : Module) × Spells bytes m × IsAcceptedModule m × Holds m asked)
+
+-- When each status comes.
 abbrev pub IsAnswer : Seen → Status → Type 0
 IsAnswer seen Usage = (mode : Mode) → AskFor mode seen.words → ⊥
 IsAnswer seen ReadFault = Asked seen (λ mode. Rose seen.reads_old seen.reads_new)
@@ -53,8 +62,9 @@ IsAnswer seen (NotInGrammar at) = Asked seen (λ mode. OfInput seen (λ bytes. I
 IsAnswer seen (Unsupported word at) = Asked seen (λ mode. OfInput seen (λ bytes. IsUnsupported bytes word at))
 IsAnswer seen (Ill rule function place) = Asked seen (λ mode. OfInput seen (λ bytes.
     (m : Module) × Spells bytes m × IsFault m rule function.0 place))
+IsAnswer seen NoFunction = AskedOfModule seen HasNoFunction
+IsAnswer seen BadArgs = AskedOfModule seen HasBadArgs
 IsAnswer seen Done = Asked seen (λ mode. OfInput seen (Writes seen mode))
 IsAnswer seen WriteFault = Asked seen (λ mode.
     Rose seen.writes_old seen.writes_new × OfInput seen (WritesPrefix seen mode))
 IsAnswer seen OutOfMemory = Asked seen (λ mode. Unit {0})
-IsAnswer seen _ = ⊥

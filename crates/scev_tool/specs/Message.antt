@@ -4,14 +4,17 @@ use Rattle.ir_model.specs.declared.item.Module.{Module}
 use Rattle.ir_model.specs.declared.rule.Rule.{Rule}
 use Rattle.ir_model.specs.declared.rule.Place.{Place}
 use Rattle.ir_grammar.specs.Spelled.{left_out, Spells}
+use Rattle.ir_grammar.specs.Printing.{name_text}
+use Rattle.eval_request.specs.Asked.{Asked}
+use Rattle.scev_words.specs.Modes.{Eval, AskFor}
 use Rattle.scev_outside.specs.Bytes.{Appended, AppendedFront}
 use Rattle.scev_outside.specs.Faults.{Rose}
 use Rattle.scev_tool.specs.declared.status.Status.{Status}
-use Rattle.scev_tool.specs.declared.status.Status.TheVariants.{Usage, ReadFault, TooLong, NotInGrammar, Unsupported, Ill, WriteFault, OutOfMemory}
+use Rattle.scev_tool.specs.declared.status.Status.TheVariants.{Usage, ReadFault, TooLong, NotInGrammar, Unsupported}
+use Rattle.scev_tool.specs.declared.status.Status.TheVariants.{Ill, NoFunction, BadArgs, WriteFault, OutOfMemory}
 use Rattle.ir_accept.specs.Line.{fault_text}
 
--- The line of a status that is the same for every module, with its line feed. The statuses that no call answers so far
--- have none.
+-- The line of a status that is the same for every call, with its line feed.
 abbrev pub message : Status → List ℕ
 message Usage = codes "scev: usage\n"
 message ReadFault = codes "scev: read fault\n"
@@ -19,6 +22,7 @@ message TooLong = codes "scev: input longer than 8388608 bytes\n"
 message (NotInGrammar at) = codes "scev: not in grammar at " ++ (decimal at ++ codes "\n")
 message (Unsupported word at) = codes "scev: unsupported "
     ++ (unwrap_or (slice_get left_out word) [] ++ (codes " at " ++ (decimal at ++ codes "\n")))
+message BadArgs = codes "scev: bad arguments\n"
 message WriteFault = codes "scev: write fault\n"
 message OutOfMemory = codes "scev: out of memory\n"
 message _ = []
@@ -29,19 +33,29 @@ abbrev pub IsIllLine : Option (List ℕ) → Rule → ℕ → Place → List ℕ
 IsIllLine left rule number place text =
     IfSome left (λ bytes. (m : Module) × Spells bytes m × (text ≡ fault_text m rule number place))
 
-abbrev pub IsOwnLine : Option (List ℕ) → Status → List ℕ → Type 0
-IsOwnLine left (Ill rule function place) text = IsIllLine left rule function.0 place text
-IsOwnLine left status text = text ≡ []
+-- the line about a name that no function has, which is the one that the words ask for
+abbrev pub no_function_text : List ℕ → List ℕ
+no_function_text name = codes "scev: no function " ++ (name_text name ++ codes "\n")
+
+abbrev pub IsNoFunctionLine : List (List ℕ) → List ℕ → Type 0
+IsNoFunctionLine words text = (asked : Asked) × AskFor (Eval asked) words × (text ≡ no_function_text asked.name)
+
+abbrev pub IsOwnLine : List (List ℕ) → Option (List ℕ) → Status → List ℕ → Type 0
+IsOwnLine words left (Ill rule function place) text = IsIllLine left rule function.0 place text
+IsOwnLine words left NoFunction text = IsNoFunctionLine words text
+IsOwnLine words left status text = text ≡ []
 
 -- the line that is written, with that of its own
 abbrev pub line_of : Status → List ℕ → List ℕ
 line_of (Ill rule function place) own = own
+line_of NoFunction own = own
 line_of status own = message status
 
--- The line of a status, with what the source had left.
-abbrev pub IsLine : Option (List ℕ) → Status → List ℕ → Type 0
-IsLine left (Ill rule function place) text = IsIllLine left rule function.0 place text
-IsLine left status text = text ≡ message status
+-- The line of a status, with the words and what the source had left.
+abbrev pub IsLine : List (List ℕ) → Option (List ℕ) → Status → List ℕ → Type 0
+IsLine words left (Ill rule function place) text = IsIllLine left rule function.0 place text
+IsLine words left NoFunction text = IsNoFunctionLine words text
+IsLine words left status text = text ≡ message status
 
 -- The text was added; or a front of it, and the count of faults rose.
 abbrev pub AddsUnlessFaulty : Option (List ℕ) → List ℕ → Option (List ℕ) → ℕ → ℕ → Type 0

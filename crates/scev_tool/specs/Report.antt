@@ -81,7 +81,8 @@ RecurrencesAreTrue f = (headers : List BlockId) (b p first step k : ℕ) → IsT
     → IsRecurrence f b p first step
     → IsTrueOf f (map (λ header. one_block header.0) headers) p (affine 32 k first step)
 
--- The bytes spell a module that is accepted, the text is its report, and what the report shows is true of each of its functions.
+-- The bytes spell a module that is accepted, the text is its report, and what the report shows is true of each of its
+-- functions.
 pub record IsReportOf (bytes text : List ℕ) : Type 0 where
   pub m : Module
   pub spelled : Spells bytes m

@@ -1,7 +1,9 @@
 -- The statuses by their numbers.
 use Rattle.std.specs.Prelude.{ℕ}
 use Rattle.scev_tool.specs.declared.status.Status.{Status}
-use Rattle.scev_tool.specs.declared.status.Status.TheVariants.{Done, Usage, ReadFault, TooLong, NotInGrammar, Unsupported, Ill, NoFunction, BadArgs, WriteFault, OutOfMemory}
+use Rattle.scev_tool.specs.declared.status.Status.TheVariants.{Done, Usage, ReadFault, TooLong, NotInGrammar}
+use Rattle.scev_tool.specs.declared.status.Status.TheVariants.{Unsupported, Ill, NoFunction, BadArgs, WriteFault}
+use Rattle.scev_tool.specs.declared.status.Status.TheVariants.{OutOfMemory}
 
 -- the exit status
 abbrev pub code_of : Status → ℕ

@@ -1,31 +1,36 @@
 //! What a mode answers.
 
-ghost use Rattle.std.specs.Prelude.{◌≡◌, ◌⊎◌, ◌≤◌, ◌<◌, ◌^◌, List, [], ℕ, length, IfOk, All};
+ghost use Rattle.std.specs.Prelude.{◌≡◌, ◌⊎◌, ◌≤◌, ◌<◌, ◌^◌, List, [], ℕ, length, IfOk, Err, All};
 ghost use Rattle.scev_outside.specs.Bytes.{Gave};
 ghost use Rattle.ir_grammar.specs.Spelled.{Spells};
-ghost use Rattle.ir_model.specs.WellMade.{HaveIds};
+ghost use Rattle.ir_model.specs.WellMade.{HaveIds, AreWellMade};
 ghost use Rattle.ir_rules.specs.Accepted.{IsAcceptedModule};
 ghost use Rattle.scev_tool.specs.Answer.{IsAnswer, input_limit};
 ghost use Rattle.ir_accept.specs.Line.{fault_text};
-ghost use Rattle.scev_tool.specs.Message.{IsOwnLine};
-ghost use Rattle.scev_tool.specs.Mode.{AskFor, IsTextOf};
+ghost use Rattle.scev_tool.specs.Message.{IsOwnLine, no_function_text};
+ghost use Rattle.eval_request.specs.Asked.{Asked};
+ghost use Rattle.ir_eval.specs.Outcome.{HasNoFunction, HasBadArgs};
+ghost use Rattle.scev_words.specs.Modes.{Eval, AskFor};
+ghost use Rattle.scev_words.specs.Found.{seen};
+ghost use Rattle.scev_tool.specs.Mode.{IsTextOf};
 ghost use Rattle.scev_tool.specs.Status.{LeavesOutput};
 
-use crate::mode::Mode;
 use crate::report::report_module;
 use crate::status::Status;
-use crate::word::Word;
 use ir_accept::{Fault, fault_line, first_fault};
+use ir_eval::{EvalFault, evaluate};
 use ir_model::Module;
-use ir_printer::print_module;
+use ir_printer::{print_module, push_text_name};
 use ir_reader::{ReadFault, read_module};
 use scev_outside::{ReadError, Sink, Source, read_all, write_all};
+use scev_words::{Mode, Word};
 use std::alloc::{AllocError, Global};
 
 /// The greatest length of an input, in bytes.
 const INPUT_LIMIT: usize = 8_388_608;
 
-/// How a call ended, and the line of a rule that is broken. Other statuses have no line of their own.
+/// How a call ended, and the line of a rule that is broken or about a missing function. Other statuses have no line of
+/// their own.
 #[derive(Drop)]
 pub(crate) struct Answered {
     pub status: Status,
@@ -37,11 +42,11 @@ pub(crate) struct Answered {
 pub(crate) fn answer<S: Source, K: Sink>(
     alloc: Global,
     words: &[Word],
-    mode: Mode,
+    mode: Mode<'_>,
     source: &mut S,
     out: &mut K,
 ) -> Answered
-    requires { AskFor mode words.now }
+    requires { AskFor (seen mode) words.now }
     ensures answer { IsAnswer (record {
       words = words.now;
       left_old = S.left source.old;
@@ -53,7 +58,7 @@ pub(crate) fn answer<S: Source, K: Sink>(
       writes_old = K.faults out.old;
       writes_new = K.faults out.new;
     }) result.status }
-    ensures line { IsOwnLine (S.left source.old) result.status result.line.items }
+    ensures line { IsOwnLine words.now (S.left source.old) result.status result.line.items }
     ensures output { LeavesOutput result.status → out.new ≡ out.old }
     ensures stands { (read : List ℕ) × Gave (S.left source.old) read (S.left source.new) }
     ensures source_count { S.faults source.old ≤ S.faults source.new }
@@ -79,8 +84,11 @@ pub(crate) fn answer<S: Source, K: Sink>(
         Err(_) => return plain(alloc, Status::OutOfMemory),
     }
     are_bytes(&bytes);
-    let Ok(text) = text_of(alloc, mode, &module) else {
-        return plain(alloc, Status::OutOfMemory);
+    let text = match text_of(alloc, mode, &module) {
+        Ok(text) => text,
+        Err(EvalFault::NoFunction) => return no_function(alloc, mode),
+        Err(EvalFault::BadArgs) => return plain(alloc, Status::BadArgs),
+        Err(EvalFault::OutOfMemory) => return plain(alloc, Status::OutOfMemory),
     };
     match write_all(out, &text) {
         Ok(()) => plain(alloc, Status::Done),
@@ -124,19 +132,56 @@ fn refused(alloc: Global, m: &Module, fault: Fault) -> Answered
     }
 }
 
+/// The status of a function that is missing, with its line, unless there is no memory for it. The mode is a run.
+fn no_function(alloc: Global, mode: Mode<'_>) -> Answered
+    ensures { (asked : Asked) → seen mode ≡ Eval asked
+        → ((result.status ≡ Status.NoFunction) × (result.line.items ≡ no_function_text asked.name))
+        ⊎ ((result.status ≡ Status.OutOfMemory) × (result.line.items ≡ [])) }
+{
+    let name = match mode {
+        Mode::Eval(request) => request.name,
+        Mode::Print | Mode::Report => b"",
+    };
+    match no_function_line(alloc, name) {
+        Ok(line) => Answered {
+            status: Status::NoFunction,
+            line,
+        },
+        Err(_) => plain(alloc, Status::OutOfMemory),
+    }
+}
+
+/// The line about a name that no function has.
+fn no_function_line(alloc: Global, name: &[u8]) -> Result<Vec<u8>, AllocError>
+    ensures { IfOk result (λ line. line.items ≡ no_function_text name.now) }
+{
+    let mut line = Vec::new(alloc);
+    line.extend_from_slice(b"scev: no function ")?;
+    push_text_name(&mut line, name)?;
+    line.push(b'\n')?;
+    Ok(line)
+}
+
 /// Each byte is below 2^8, as its type says.
 fn are_bytes(bytes: &[u8])
     ensures { All (λ b. b < 2 ^ 8) bytes.now }
 {}
 
-/// The mode's text for a module.
-fn text_of(alloc: Global, mode: Mode, m: &Module) -> Result<Vec<u8>, AllocError>
-    requires { HaveIds m.now }
-    ensures { IfOk result (λ text. (bytes : List ℕ) → All (λ b. b < 2 ^ 8) bytes → length bytes ≤ input_limit →
-        Spells bytes m.now → IsAcceptedModule m.now → IsTextOf mode bytes text.items) }
+/// The mode's text for a module that is accepted. The error is `NoFunction` and `BadArgs` only for a run.
+fn text_of(alloc: Global, mode: Mode<'_>, m: &Module) -> Result<Vec<u8>, EvalFault>
+    requires ids { HaveIds m.now }
+    requires well_made { AreWellMade m.now }
+    requires accepted { IsAcceptedModule m.now }
+    ensures text { IfOk result (λ text. (bytes : List ℕ) → All (λ b. b < 2 ^ 8) bytes → length bytes ≤ input_limit →
+        Spells bytes m.now → IsTextOf (seen mode) bytes text.items) }
+    ensures no_function { result ≡ Err EvalFault.NoFunction
+        → (asked : Asked) × (seen mode ≡ Eval asked) × HasNoFunction m.now asked }
+    ensures bad_args { result ≡ Err EvalFault.BadArgs
+        → (asked : Asked) × (seen mode ≡ Eval asked) × HasBadArgs m.now asked }
 {
     match mode {
-        Mode::Print => print_module(alloc, m),
-        Mode::Report => report_module(alloc, m),
+        Mode::Print => Ok(print_module(alloc, m)?),
+        Mode::Report => Ok(report_module(alloc, m)?),
+        Mode::Eval(request) => evaluate(alloc, m, request),
     }
 }

@@ -1,6 +1,7 @@
 //! The lines of a report on a function's loops.
 
-ghost use Rattle.std.specs.Prelude.{◌≡◌, ◌++◌, ◌<◌, ◌^◌, ◌↔◌, ℕ, List, length, cond, slice_get, Some, None, IfSome, IsTrue, OnOk, Contains};
+ghost use Rattle.std.specs.Prelude.{◌≡◌, ◌++◌, ◌<◌, ◌^◌, ◌↔◌, ℕ, List, length, cond, slice_get, Some, None, IfSome};
+ghost use Rattle.std.specs.Prelude.{IsTrue, OnOk, Contains};
 ghost use Rattle.std.specs.Fmt.{signed_decimal};
 ghost use Rattle.scev_base.specs.Residue.{reading};
 ghost use Rattle.ir_model.specs.Shapes.{block_of, is_phi as is_of_phi};
@@ -9,7 +10,8 @@ ghost use Rattle.loop_regions.specs.OneBlock.{AreLoops};
 ghost use Rattle.classify.specs.Definitions.{AreDefinitions};
 ghost use Rattle.classify.specs.Recurrence.{IsAnswer, phis};
 ghost use Rattle.ir_printer.specs.Shown.{shown};
-ghost use Rattle.scev_tool.specs.Report.{AreLoopLines, IsPhiLine, InPieces, phi_line, loop_line, recurrence_text, expression_text};
+ghost use Rattle.scev_tool.specs.Report.{AreLoopLines, IsPhiLine, InPieces, phi_line, loop_line, recurrence_text};
+ghost use Rattle.scev_tool.specs.Report.{expression_text};
 
 use classify::{Definitions, classify_phi};
 use ir_model::{Block, Function, Instr};

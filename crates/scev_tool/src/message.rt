@@ -63,13 +63,15 @@ fn write_message<E: Sink>(err: &mut E, status: Status) -> Result<(), Failed>
         Status::TooLong => write_all(err, b"scev: input longer than 8388608 bytes\n"),
         Status::NotInGrammar { at } => write_place(err, b"scev: not in grammar at ", at),
         Status::Unsupported { word, at } => write_unsupported(err, word, at),
+        Status::BadArgs => write_all(err, b"scev: bad arguments\n"),
         Status::WriteFault => write_all(err, b"scev: write fault\n"),
         Status::OutOfMemory => write_all(err, b"scev: out of memory\n"),
-        _ => write_all(err, b""),
+        Status::Done | Status::NoFunction | Status::Ill { .. } => write_all(err, b""),
     }
 }
 
-/// Appends the line of a status: that of a broken rule is given, the others are the same for every module. `Failed`
+/// Appends the line of a status: that of a broken rule and of a missing function is given, the others are the same for
+/// every call. `Failed`
 /// comes only where the sink's count of faults rose; a front of the line is then appended.
 pub fn write_line<E: Sink>(err: &mut E, status: Status, own: &[u8]) -> Result<(), Failed>
     ensures whole { OnOk result (Appended (E.taken err.old) (line_of status own.now) (E.taken err.new)) }
@@ -78,7 +80,7 @@ pub fn write_line<E: Sink>(err: &mut E, status: Status, own: &[u8]) -> Result<()
     ensures count { E.faults err.old ≤ E.faults err.new }
 {
     match status {
-        Status::Ill { .. } => write_all(err, own),
+        Status::Ill { .. } | Status::NoFunction => write_all(err, own),
         _ => write_message(err, status),
     }
 }

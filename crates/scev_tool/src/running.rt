@@ -10,26 +10,33 @@ ghost use Rattle.scev_outside.specs.Bytes.{Gave};
 ghost use Rattle.scev_outside.specs.Faults.{Rose};
 ghost use Rattle.scev_tool.specs.Message.{IsLine, AddsUnlessFaulty};
 ghost use Rattle.scev_tool.specs.Answer.{IsAnswer, input_limit};
-ghost use Rattle.scev_tool.specs.Mode.{AskFor};
-ghost use Rattle.scev_tool.specs.declared.mode.Mode.{Mode};
+ghost use Rattle.eval_request.specs.Asked.{Asked};
+ghost use Rattle.ir_eval.specs.Outcome.{HasNoFunction, HasBadArgs};
+ghost use Rattle.scev_words.specs.Modes.{Mode, Eval, AskFor};
+ghost use Rattle.scev_tool.specs.Mode.{HasAsked};
 ghost use Rattle.scev_tool.specs.Status.{LeavesOutput, Refuses};
 
 use crate::answer::{answer, plain};
 use crate::message::write_line;
-use crate::mode::mode_of;
 use crate::status::Status;
-use crate::word::Word;
 use scev_outside::{Sink, Source};
+use scev_words::{Word, mode_of};
 use std::alloc::Global;
 
-/// Does what the words ask for: it reads the source to its end and writes a text for the module that its
-/// bytes spell to `out`. With the word `print` that is the printed module, with `report` the report on the
-/// loops of its functions, in which each recurrence is true of its phi in every run. `words` are the words
-/// after the program's name. The status says how the call ended; its line goes to `err`, and a fault of
-/// `err` changes no status.
+/// Does what the words ask for: it reads the source to its end, and writes a text about the module that its bytes spell
+/// to `out`. `words` are the words after the program's name; the status says how the call ended.
 ///
-/// A source or a sink that doesn't tell its content leaves the clauses on content open. Want of memory is
-/// the one free answer; it never comes once the first byte was written.
+/// With the word `print` the text is the printed module; with `report` the report on the loops of its functions, in
+/// which each recurrence is true of its phi in every run; with `eval` three lines about a run of a function with the
+/// number 0 chosen in each step: how it ended, how many steps it made, and how many calls. `eval` has the options
+/// `--function`, by its name, `--args`, the arguments with commas between them, and `--steps`, the most steps,
+/// 1,000,000 where it is left out.
+///
+/// A module that breaks a rule of well-formedness is refused at the first one, with its first place. The line of a
+/// status goes to `err`, and a fault of `err` changes no status.
+///
+/// A source or a sink that doesn't tell its content leaves the clauses on content open. Want of memory is the one free
+/// answer; it never comes once the first byte was written.
 pub fn run<S: Source, K: Sink, E: Sink>(
     alloc: Global,
     words: &[Word],
@@ -55,11 +62,11 @@ pub fn run<S: Source, K: Sink, E: Sink>(
     ensures output { LeavesOutput result → out.new ≡ out.old }
     ensures stands { (read : List ℕ) × Gave (S.left source.old) read (S.left source.new) }
 
-    // A module within the limit that breaks no rule is answered, unless memory runs out or an object's count of faults
-    // rises; one that breaks a rule is refused at the first one, with its first place.
+    // A module within the limit that breaks no rule and has what is asked for is answered, unless memory runs out or an
+    // object's count of faults rises; one that breaks a rule is refused at the first one, with its first place.
     ensures complete { (mode : Mode) (bytes : List ℕ) (m : Module) → AskFor mode words.now →
         S.left source.old ≡ Some bytes → length bytes ≤ input_limit → Spells bytes m → IsAcceptedModule m →
-        (Rose (S.faults source.old) (S.faults source.new) → ⊥) →
+        HasAsked mode m → (Rose (S.faults source.old) (S.faults source.new) → ⊥) →
         (Rose (K.faults out.old) (K.faults out.new) → ⊥) →
         (result ≡ Status.Done) ⊎ (result ≡ Status.OutOfMemory) }
 
@@ -67,6 +74,16 @@ pub fn run<S: Source, K: Sink, E: Sink>(
         AskFor mode words.now → S.left source.old ≡ Some bytes → length bytes ≤ input_limit → Spells bytes m →
         IsFault m rule number place → (Rose (S.faults source.old) (S.faults source.new) → ⊥) →
         (result ≡ Status.Ill rule (record { 0 = number }) place) ⊎ (result ≡ Status.OutOfMemory) }
+
+    // A run of a function that the module doesn't have, and with arguments that don't fit, is refused.
+    ensures no_function { (asked : Asked) (bytes : List ℕ) (m : Module) → AskFor (Eval asked) words.now →
+        S.left source.old ≡ Some bytes → length bytes ≤ input_limit → Spells bytes m → IsAcceptedModule m →
+        HasNoFunction m asked → (Rose (S.faults source.old) (S.faults source.new) → ⊥) →
+        (result ≡ Status.NoFunction) ⊎ (result ≡ Status.OutOfMemory) }
+    ensures bad_args { (asked : Asked) (bytes : List ℕ) (m : Module) → AskFor (Eval asked) words.now →
+        S.left source.old ≡ Some bytes → length bytes ≤ input_limit → Spells bytes m → IsAcceptedModule m →
+        HasBadArgs m asked → (Rose (S.faults source.old) (S.faults source.new) → ⊥) →
+        (result ≡ Status.BadArgs) ⊎ (result ≡ Status.OutOfMemory) }
 
     // What spells none within the limit is refused, at its place and under its name, on the same conditions; and what
     // is longer.
@@ -86,7 +103,7 @@ pub fn run<S: Source, K: Sink, E: Sink>(
         (result ≡ Status.TooLong) ⊎ (result ≡ Status.OutOfMemory) }
 
     // The status's line on `err`, and the counts of faults, which never fall.
-    ensures line { (text : List ℕ) × IsLine (S.left source.old) result text
+    ensures line { (text : List ℕ) × IsLine words.now (S.left source.old) result text
         × AddsUnlessFaulty (E.taken err.old) text (E.taken err.new) (E.faults err.old) (E.faults err.new) }
     ensures reads { S.faults source.old ≤ S.faults source.new }
     ensures writes { K.faults out.old ≤ K.faults out.new }

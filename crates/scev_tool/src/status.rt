@@ -5,7 +5,7 @@ ghost use Rattle.std.specs.Prelude.{◌≡◌};
 use ir_model::{Place, Rule};
 use scev_base::FuncId;
 
-/// How a call of the tool ended. So far no call answers `NoFunction` or `BadArgs`.
+/// How a call of the tool ended.
 #[derive(Clone, Copy, Debug, PartialEq, Eq)]
 pub enum Status {
     /// The whole text was written.

@@ -74,7 +74,8 @@ steps_most = 1000000
 
 abbrev pub IsMost : List (List ℕ) → ℕ → Type 0
 IsMost values most = ((values ≡ []) × (most ≡ steps_most))
-    ⊎ ((text : List ℕ) × (values ≡ text ∷ []) × IsTrue (is_numeral text) × (numeral_value text ≡ most) × (most ≤ steps_most))
+    ⊎ ((text : List ℕ) × (values ≡ text ∷ []) × IsTrue (is_numeral text)
+    × (numeral_value text ≡ most) × (most ≤ steps_most))
 
 -- The words ask for a run: `eval` stands once, `--function` once, the other two options at most once, in any order.
 pub record AskForEval (asked : Asked) (words : List (List ℕ)) : Type 0 where

@@ -1,5 +1,7 @@
 -- Tables of the sizes of blocks, filled from the last block back.
-use Rattle.std.proofs.Common.{◌≡◌, ◌==◌, ◌<◌, ℕ, Bool, true, false, List, ◌∷◌, length, get_or, set, find, option_map, unwrap_or, if◌then◌else◌, All, refl, sym, ap, ◌∙◌, subst, inl, inr, arith, length-set, get_or-set_same, get_or-set_other}
+use Rattle.std.proofs.Common.{◌≡◌, ◌==◌, ◌<◌, ℕ, Bool, true, false, List, ◌∷◌, length, get_or, set, find, option_map}
+use Rattle.std.proofs.Common.{unwrap_or, if◌then◌else◌, All, refl, sym, ap, ◌∙◌, subst, inl, inr, arith, length-set}
+use Rattle.std.proofs.Common.{get_or-set_same, get_or-set_other}
 use Rattle.std.proofs.lemmas.Bool.{cases_eq, eq-eqb, ne_eqb}
 use Rattle.std.proofs.lemmas.List.Elements.{All-get_or}
 use Rattle.flow_graph.proofs.IdLemmas.{labelled}

@@ -1,6 +1,7 @@
 //! Where the values of a function are first defined.
 
-ghost use Rattle.std.specs.Prelude.{◌≡◌, ◌<◌, ℕ, Option, All, if◌then◌else◌, length, option_map, position, slice_index_or, IfOk};
+ghost use Rattle.std.specs.Prelude.{◌≡◌, ◌<◌, ℕ, Option, All, if◌then◌else◌, length, option_map, position};
+ghost use Rattle.std.specs.Prelude.{slice_index_or, IfOk};
 ghost use Rattle.scev_base.specs.declared.ids.BlockId.{BlockId};
 ghost use Rattle.ir_model.specs.declared.function.Instr.{Instr};
 ghost use Rattle.ir_model.specs.Defined.{is_value};

@@ -1,7 +1,8 @@
 use Rattle.std.proofs.Common.{◌∙◌, ap, sym, refl, inl, inr, Some}
 use Rattle.classify.proofs.PhiLoops.{start_skip, start_next, no_numeral_start, two_starts}
 use Rattle.classify.proofs.entries.start_of.Goals as goal
-use Rattle.classify.proofs.entries.start_of.Goals.{then-ne+in_ok-start+in_default-2, then-ne+in_ok-start+in_default, else-ne}
+use Rattle.classify.proofs.entries.start_of.Goals.{then-ne+in_ok-start+in_default-2, then-ne+in_ok-start+in_default}
+use Rattle.classify.proofs.entries.start_of.Goals.{else-ne}
 
 pub returns-in_err-start-clause-none : goal.returns-in_err-start-clause-none
 returns-in_err-start-clause-none c =

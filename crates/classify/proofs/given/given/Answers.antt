@@ -33,7 +33,8 @@ block_is : (c : After-as_slice-2) → slice_get c.args.f.now.blocks c.in_ok-at.a
 block_is c =
     read_there c.args.f.now.blocks c.as_slice.result.now c.in_ok-at.at c.index-as_slice-at.result c.as_slice.ensures (block_within (goal.at.bounds-as_slice-instr c).After-as_slice) c.index-as_slice-at.is
 
-instr_is : (c : After-as_slice-2) → (instr : Instr) × (slice_get c.index-as_slice-at.result.instrs c.in_ok-at.instr ≡ Some instr) × (instr.result ≡ Some c.args.v)
+instr_is : (c : After-as_slice-2)
+    → (instr : Instr) × (slice_get c.index-as_slice-at.result.instrs c.in_ok-at.instr ≡ Some instr) × (instr.result ≡ Some c.args.v)
 instr_is c =
     let given = place (goal.at.bounds-as_slice-instr c).After-as_slice in
     let same = same_Some given.0 c.index-as_slice-at.result (sym given.2 ∙ block_is c) in

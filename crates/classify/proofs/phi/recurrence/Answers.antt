@@ -2,7 +2,9 @@ use Rattle.std.specs.Prelude.{◌≡◌, Some, Contains, slice_get}
 use Rattle.std.proofs.Common.{sym, subst}
 use Rattle.std.proofs.lemmas.Bool.{both_ways}
 use Rattle.classify.proofs.GivenLemmas.{IsGivenBy}
-use Rattle.classify.proofs.PhiLemmas.{none_left, some_when, none_unless, equal, unequal, phi_is_given, block_named, has_entries, phis_first, back, outside, starts, next_is_given, same_block, increments, recurrence_of}
+use Rattle.classify.proofs.PhiLemmas.{none_left, some_when, none_unless, equal, unequal, phi_is_given, block_named}
+use Rattle.classify.proofs.PhiLemmas.{has_entries, phis_first, back, outside, starts, next_is_given, same_block}
+use Rattle.classify.proofs.PhiLemmas.{increments, recurrence_of}
 use Rattle.classify.proofs.FirstPhis.{told_at}
 use Rattle.classify.proofs.PhiAnswers.{contains_at}
 use Rattle.classify.proofs.phi.recurrence.Goals as goal

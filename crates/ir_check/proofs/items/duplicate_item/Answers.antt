@@ -1,4 +1,5 @@
-use Rattle.std.proofs.Common.{◌≡◌, ◌+◌, ℕ, suc, true, false, length, arith, refl, sym, ap, ◌∙◌, List, Bor, ◌++◌, ◌∷◌, [], cond, Bool}
+use Rattle.std.proofs.Common.{◌≡◌, ◌+◌, ℕ, suc, true, false, length, arith, refl, sym, ap, ◌∙◌, List, Bor, ◌++◌, ◌∷◌}
+use Rattle.std.proofs.Common.{[], cond, Bool}
 use Rattle.std.specs.List.{list_any}
 use Rattle.std.specs.Str.{bytes_eq}
 use Rattle.std.proofs.lemmas.Option.{slice_get_read}

@@ -5,7 +5,8 @@ use Rattle.ir_memory.specs.Memory.{Memory, block_at}
 use Rattle.ir_memory.specs.Offset.{offset_from}
 use Rattle.ir_machine.specs.Effects.{bytes_moved}
 use Rattle.ir_machine.proofs.addresses.address_at.Goals as goal
-use Rattle.ir_machine.proofs.addresses.address_at.Goals.{else-inbounds-via-then-inbounds+else-offset-unwrap_or, else-inbounds-via-else-inbounds}
+use Rattle.ir_machine.proofs.addresses.address_at.Goals.{else-inbounds-via-then-inbounds+else-offset-unwrap_or}
+use Rattle.ir_machine.proofs.addresses.address_at.Goals.{else-inbounds-via-else-inbounds}
 
 -- where there is no block it has no bytes
 size_at : (memory : Memory) (block : ℕ)

@@ -4,7 +4,8 @@ use Rattle.ir_machine.specs.Narrow.{HasPlace}
 use Rattle.ir_machine.specs.Stands.{Seen, Stands}
 use Rattle.ir_machine.proofs.AcceptedParts.{IsHeld, instr_held}
 use Rattle.ir_machine.proofs.Alike.{state_of, stands_for_one}
-use Rattle.ir_machine.proofs.MachineSteps.{stands_somewhere, stands_within, goes_way, goes_effect, safe_way, safe_effect}
+use Rattle.ir_machine.proofs.MachineSteps.{stands_somewhere, stands_within, goes_way, goes_effect, safe_way}
+use Rattle.ir_machine.proofs.MachineSteps.{safe_effect}
 use Rattle.ir_machine.proofs.machine.Machine.carry_out.Goals as goal
 use Rattle.ir_machine.proofs.machine.Machine.carry_out.Goals.{After-self, In-Some-instr_of}
 
