@@ -1,6 +1,6 @@
 //! The files of the folder `examples` at the top, with what the program writes for them.
 
-use crate::call::{print, report};
+use crate::call::{print, report, writes};
 use scev_tool::Status;
 use std::test::Fail;
 
@@ -178,5 +178,12 @@ fn the_example_by_clang(rt: HostRuntime) -> Result<(), Fail> {
     let outcome = print(rt.alloc(), SUM.as_bytes())?;
     assert_eq!(rt; outcome.status, Status::Done);
     assert_eq!(rt; outcome.out.as_slice(), SUM_PRINTED.as_bytes());
+    Ok(())
+}
+
+#[test]
+fn a_run_of_the_example_by_clang(rt: HostRuntime) -> Result<(), Fail> {
+    let words = ["eval", "--function", "sum", "--args", "b12,3"];
+    assert!(rt; writes(rt.alloc(), SUM, &words, "returned 0\nsteps 26\nevents 3\n")?);
     Ok(())
 }
