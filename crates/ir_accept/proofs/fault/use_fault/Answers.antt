@@ -23,6 +23,6 @@ pub returns-in-Err-UseBeforeDef-clause-refused : goal.returns-in-Err-UseBeforeDe
 returns-in-Err-UseBeforeDef-clause-refused c =
     let v = c.in-Err-UseBeforeDef.value in
     let b = c.in-Err-UseBeforeDef.block in
-    let found = rw c.function-f.ensures at (c.in-Err-UseBeforeDef.ensures.refused v b (cc)) in
+    let found = rw c.function-f.ensures.value at (c.in-Err-UseBeforeDef.ensures.refused v b (cc)) in
     let shape = rw c.function-f.ensures.value at c.function-f.ensures.shape in
     broken_use c.args.shaped.now.signatures c.args.shaped.now.function v b shape found
