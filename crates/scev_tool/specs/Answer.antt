@@ -45,8 +45,8 @@ WritesPrefix seen mode bytes =
     (text : List ℕ) × IsTextOf mode bytes text × AppendedFront seen.taken_old text seen.taken_new
 
 -- The words ask for a mode, of which this holds.
-abbrev pub Asked : Seen → (Mode → Type 0) → Type 0
-Asked seen Holds = (mode : Mode) × AskFor mode seen.words × Holds mode
+abbrev pub AskedFor : Seen → (Mode → Type 0) → Type 0
+AskedFor seen Holds = (mode : Mode) × AskFor mode seen.words × Holds mode
 
 -- The words ask for a run of a module that is accepted, of which this holds.
 abbrev pub AskedOfModule : Seen → (Module → Asked → Type 0) → Type 0
@@ -56,15 +56,15 @@ AskedOfModule seen Holds = (asked : Asked) × AskFor (Eval asked) seen.words
 -- When each status comes.
 abbrev pub IsAnswer : Seen → Status → Type 0
 IsAnswer seen Usage = (mode : Mode) → AskFor mode seen.words → ⊥
-IsAnswer seen ReadFault = Asked seen (λ mode. Rose seen.reads_old seen.reads_new)
-IsAnswer seen TooLong = Asked seen (λ mode. IfSome seen.left_old (λ bytes. input_limit < length bytes))
-IsAnswer seen (NotInGrammar at) = Asked seen (λ mode. OfInput seen (λ bytes. IsNotInGrammar bytes at))
-IsAnswer seen (Unsupported word at) = Asked seen (λ mode. OfInput seen (λ bytes. IsUnsupported bytes word at))
-IsAnswer seen (Ill rule function place) = Asked seen (λ mode. OfInput seen (λ bytes.
+IsAnswer seen ReadFault = AskedFor seen (λ mode. Rose seen.reads_old seen.reads_new)
+IsAnswer seen TooLong = AskedFor seen (λ mode. IfSome seen.left_old (λ bytes. input_limit < length bytes))
+IsAnswer seen (NotInGrammar at) = AskedFor seen (λ mode. OfInput seen (λ bytes. IsNotInGrammar bytes at))
+IsAnswer seen (Unsupported word at) = AskedFor seen (λ mode. OfInput seen (λ bytes. IsUnsupported bytes word at))
+IsAnswer seen (Ill rule function place) = AskedFor seen (λ mode. OfInput seen (λ bytes.
     (m : Module) × Spells bytes m × IsFault m rule function.0 place))
 IsAnswer seen NoFunction = AskedOfModule seen HasNoFunction
 IsAnswer seen BadArgs = AskedOfModule seen HasBadArgs
-IsAnswer seen Done = Asked seen (λ mode. OfInput seen (Writes seen mode))
-IsAnswer seen WriteFault = Asked seen (λ mode.
+IsAnswer seen Done = AskedFor seen (λ mode. OfInput seen (Writes seen mode))
+IsAnswer seen WriteFault = AskedFor seen (λ mode.
     Rose seen.writes_old seen.writes_new × OfInput seen (WritesPrefix seen mode))
-IsAnswer seen OutOfMemory = Asked seen (λ mode. Unit {0})
+IsAnswer seen OutOfMemory = AskedFor seen (λ mode. Unit {0})

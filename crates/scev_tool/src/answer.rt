@@ -134,7 +134,7 @@ fn refused(alloc: Global, m: &Module, fault: Fault) -> Answered
 
 /// The status of a function that is missing, with its line, unless there is no memory for it. The mode is a run.
 fn no_function(alloc: Global, mode: Mode<'_>) -> Answered
-    ensures { (asked : Asked) → seen mode ≡ Eval asked
+    ensures { (asked : Asked) → seen mode.entry ≡ Eval asked
         → ((result.status ≡ Status.NoFunction) × (result.line.items ≡ no_function_text asked.name))
         ⊎ ((result.status ≡ Status.OutOfMemory) × (result.line.items ≡ [])) }
 {
@@ -173,11 +173,11 @@ fn text_of(alloc: Global, mode: Mode<'_>, m: &Module) -> Result<Vec<u8>, EvalFau
     requires well_made { AreWellMade m.now }
     requires accepted { IsAcceptedModule m.now }
     ensures text { IfOk result (λ text. (bytes : List ℕ) → All (λ b. b < 2 ^ 8) bytes → length bytes ≤ input_limit →
-        Spells bytes m.now → IsTextOf (seen mode) bytes text.items) }
+        Spells bytes m.now → IsTextOf (seen mode.entry) bytes text.items) }
     ensures no_function { result ≡ Err EvalFault.NoFunction
-        → (asked : Asked) × (seen mode ≡ Eval asked) × HasNoFunction m.now asked }
+        → (asked : Asked) × (seen mode.entry ≡ Eval asked) × HasNoFunction m.now asked }
     ensures bad_args { result ≡ Err EvalFault.BadArgs
-        → (asked : Asked) × (seen mode ≡ Eval asked) × HasBadArgs m.now asked }
+        → (asked : Asked) × (seen mode.entry ≡ Eval asked) × HasBadArgs m.now asked }
 {
     match mode {
         Mode::Print => Ok(print_module(alloc, m)?),
