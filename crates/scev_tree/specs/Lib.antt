@@ -1,2 +1,6 @@
 pub mod Tree
 pub mod Value
+pub mod Order
+pub mod Canonical
+pub mod Size
+pub mod Invariant

@@ -1,2 +1,7 @@
-//! Definitions alone: expressions of scalar evolution as plain trees, and the values that they have.
+//! Expressions of scalar evolution: the kinds of their atoms, and definitions of them as plain trees, of their values,
+//! of their order, and of their size.
 #![tactic(auto)]
+
+mod kind;
+
+pub use kind::Kind;
