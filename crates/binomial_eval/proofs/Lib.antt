@@ -1,5 +1,5 @@
 pub mod ChooseLemmas
 pub mod CountLemmas
-pub mod RowLemmas
-pub mod SumLemmas
 pub mod LinearLemmas
+pub mod FactorialLemmas
+pub mod SumLemmas

@@ -13,7 +13,7 @@ mul_less : (z a b : ℕ) → 0 < z → a < b → z * a < z * b
 mul_less z a b some less = grind arith
 
 -- a common factor of a number and the modulus
-mul-mod_mul : (z x y : ℕ) → 0 < z → 0 < y → z * x % (z * y) ≡ z * (x % y)
+pub mul-mod_mul : (z x y : ℕ) → 0 < z → 0 < y → z * x % (z * y) ≡ z * (x % y)
 mul-mod_mul z x y some more =
     let split = div-add-mod x y in
     let whole : z * x + z * y * 0 ≡ z * (x % y) + z * y * (x / y) = omega (arith, ap (λ (t : ℕ). z * t) split) in
@@ -36,7 +36,7 @@ product_of w e n factor odd t h =
     rw (modulus_of w e n factor odd h, group) (mul-mod_mul (2 ^ e) (odd * t) (2 ^ n) (pow_pos e) (pow_pos n))
 
 -- a number times one that is 1 modulo the modulus
-times_one : (x y modulus : ℕ) → y % modulus ≡ 1 → (x * y) % modulus ≡ x % modulus
+pub times_one : (x y modulus : ℕ) → y % modulus ≡ 1 → (x * y) % modulus ≡ x % modulus
 times_one x y modulus e =
     let plain : x * 1 ≡ x = omega arith in
     sym (mul-mod_second x y modulus) ∙ ap (λ (k : ℕ). (x * k) % modulus) e ∙ ap (λ (k : ℕ). k % modulus) plain

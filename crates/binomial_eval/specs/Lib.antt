@@ -1,5 +1,5 @@
 pub mod Choose
+pub mod Factorial
 pub mod Sums
-pub mod Rows
 pub mod Products
 pub mod Congruence

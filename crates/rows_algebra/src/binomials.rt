@@ -1,6 +1,9 @@
 //! Binomials, and recurrences at a turn.
 
-use binomial_eval::{binomial, eval_rec};
+ghost use Rattle.std.specs.Prelude.{◌≤◌};
+
+use crate::halving::binomial_by_halving;
+use binomial_eval::{Factorial, binomial, eval_rec, factorial_parts};
 use scev_base::{Steps, Width, trunc};
 
 const BYTE: Width = Width { bits: 8 };
@@ -9,12 +12,29 @@ const SINGLE: Width = Width { bits: 32 };
 
 const DOUBLE: Width = Width { bits: 64 };
 
+#[test]
+fn parts_of_factorials(rt: HostRuntime) {
+    let of_six = Factorial {
+        twos: 1,
+        odd: 3,
+        inverse: 12_297_829_382_473_034_411,
+    };
+    assert_eq!(rt; factorial_parts(3), of_six);
+    let of_40320 = Factorial {
+        twos: 7,
+        odd: 315,
+        inverse: 3_455_104_445_551_947_763,
+    };
+    assert_eq!(rt; factorial_parts(8), of_40320);
+}
+
 /// How many ways there are to choose three of so many, modulo 2^64 and modulo 2^32.
-const THREE_OF: [(u64, u64, u64); 15] = [
+const THREE_OF: [(u64, u64, u64); 16] = [
     (0, 0, 0),
     (2, 0, 0),
     (3, 1, 1),
     (5, 10, 10),
+    (10, 120, 120),
     (100, 161_700, 161_700),
     (0xFFFF_FFFF, 12_297_829_390_347_141_119, 2_147_483_647),
     (0x1_0000_0000, 3_074_457_347_049_914_368, 0),
@@ -68,6 +88,41 @@ fn eight_of_many(rt: HostRuntime) {
     assert_eq!(rt; binomial::<1>(u64::MAX, BYTE), 255);
 }
 
+/// The binomial coefficient of `t` at `k`, modulo 2^w.
+fn binomial_at(t: u64, k: usize, w: Width) -> u64
+    requires { k ≤ 8 }
+{
+    match k {
+        0 => binomial::<0>(t, w),
+        1 => binomial::<1>(t, w),
+        2 => binomial::<2>(t, w),
+        3 => binomial::<3>(t, w),
+        4 => binomial::<4>(t, w),
+        5 => binomial::<5>(t, w),
+        6 => binomial::<6>(t, w),
+        7 => binomial::<7>(t, w),
+        _ => binomial::<8>(t, w),
+    }
+}
+
+/// 2,000 cases: all widths and all places several times, and turns of all lengths, from the numbers modulo 2^64
+/// of a linear congruential generator, with Knuth's factor and summand.
+#[test]
+fn as_by_halving(rt: HostRuntime) {
+    let mut state: u64 = 0;
+    for case in 0..2000u32 {
+        state = state
+            .wrapping_mul(6_364_136_223_846_793_005)
+            .wrapping_add(1_442_695_040_888_963_407);
+        let t = state >> (case % 64);
+        let k = (case % 9) as usize;
+        let w = Width {
+            bits: 1 + case / 9 % 64,
+        };
+        assert_eq!(rt; binomial_at(t, k, w), binomial_by_halving(t, k, w));
+    }
+}
+
 const NINE_PARTS: &[u64] = &[
     0x9E37_79B9_7F4A_7C15,
     0x3C6E_F372_FE94_F82A,
@@ -82,38 +137,32 @@ const NINE_PARTS: &[u64] = &[
 
 /// At most nine parts of a recurrence, a turn, a width, the number at the turn, and how many multiplications it
 /// takes.
-const AT_TURNS: [(&[u64], u64, Width, u64, u64); 6] = [
-    // 0 + 5 + 2 * 10, by 5 halvings of a row of three, which take 6 multiplications each, and the 3 of
-    // the sum
-    (&[0, 1, 2], 5, DOUBLE, 25, 21),
-    (&[7], u64::MAX, DOUBLE, 7, 65),
+const AT_TURNS: [(&[u64], u64, Width, u64, u64); 7] = [
+    // 0 + 5 + 2 * 10. Each part takes three multiplications, whatever the turn is.
+    (&[0, 1, 2], 5, DOUBLE, 25, 9),
+    (&[0, 1, 2], 5, SINGLE, 25, 9),
+    (&[7], u64::MAX, DOUBLE, 7, 3),
     (
         &[3, 1, 4, 1, 5, 9, 2, 6, 5],
         u64::MAX,
         DOUBLE,
         11_529_215_046_068_469_762,
-        2889,
+        27,
     ),
-    (
-        NINE_PARTS,
-        u64::MAX,
-        DOUBLE,
-        13_192_556_921_555_807_337,
-        2889,
-    ),
+    (NINE_PARTS, u64::MAX, DOUBLE, 13_192_556_921_555_807_337, 27),
     (
         NINE_PARTS,
         1_000_000_000_000_000_000,
         DOUBLE,
         6_211_219_093_419_129_877,
-        2709,
+        27,
     ),
     (
         &[21, 42, 63, 84, 105, 126, 147, 168, 189],
         u64::MAX,
         BYTE,
         105,
-        2889,
+        27,
     ),
 ];
 

@@ -8,6 +8,8 @@ mod binomials;
 #[cfg(test)]
 mod congruences;
 #[cfg(test)]
+mod halving;
+#[cfg(test)]
 mod residues;
 
 // What is made of them.

@@ -1,7 +1,7 @@
 use Rattle.std.proofs.Common.{◌*◌, ◌-◌, ◌/◌, ◌^◌, w64, ◌∙◌, arith}
 use Rattle.std.specs.Int.{trailing_zeros}
 use Rattle.std.proofs.lemmas.Nat.{one_shl}
-use Rattle.binomial_eval.proofs.SumLemmas.{lowest_bits}
+use Rattle.scev_base.proofs.Congruence.{mod-mod_pow}
 use Rattle.binomial_eval.proofs.LinearLemmas.{IsFactored, trailing_split, least_solution, no_solution, no_solution_of_zero}
 use Rattle.binomial_eval.proofs.linear.solve_linear.Goals as goal
 
@@ -47,6 +47,6 @@ returns-clause-least c =
     let parts = trailing_split w factor c.args.w.at_most_64 c.if-factor-eq0.false c.trunc-factor.ensures.below in
     let power = one_shl e 64 (omega (arith, parts.fewer)) in
     let h : IsFactored w e n factor (factor / 2 ^ e) = record { places = omega (arith, parts.fewer, c.get.ensures); split = parts.split } in
-    let result = c.trunc.ensures.value ∙ lowest_bits (product / 2 ^ e * inverse) n (omega (arith, c.get.ensures)) in
+    let result = c.trunc.ensures.value ∙ mod-mod_pow (product / 2 ^ e * inverse) n 64 (omega (arith, c.get.ensures)) in
     rw result
     (least_solution c.args.b c.args.d w factor product e n (factor / 2 ^ e) inverse c.trunc-factor.ensures.value c.trunc-product.ensures.value h c.inverse_odd-inverse.ensures.inverse (rw power at c.if-product-twos-ne0.false))

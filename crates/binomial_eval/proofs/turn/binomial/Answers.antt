@@ -1,11 +1,10 @@
-use Rattle.std.proofs.Common.{◌%◌, ◌^◌, ◌<◌, ◌∙◌, ℕ, length, ap, arith, length-take}
-use Rattle.binomial_eval.specs.Choose.{choose}
-use Rattle.binomial_eval.proofs.SumLemmas.{lowest_bits}
+use Rattle.std.proofs.Common.{◌∙◌}
+use Rattle.binomial_eval.proofs.FactorialLemmas.{product_none, product_more}
 use Rattle.binomial_eval.proofs.turn.binomial.Goals as goal
 
-pub returns-clause-value : goal.returns-clause-value
-returns-clause-value g c =
-    let w = c.args.w.bits in
-    let inside : g.row.K < length c.fill_row.new.row = omega (arith, length-take {A = ℕ}, c.fill_row.auto.row) in
-    let last = c.fill_row.ensures.row g.row.K inside in
-    c.trunc.ensures.value ∙ ap (λ (n : ℕ). n % 2 ^ w) last ∙ lowest_bits (choose c.args.t g.row.K) w (omega arith)
+pub loop-k-init : goal.loop-k-init
+loop-k-init g c = product_none c.args.t
+
+pub loop-k-preserved : goal.loop-k-preserved
+loop-k-preserved g c =
+    c.longer_product-product.ensures.value ∙ product_more c.args.t c.loop-k.k c.loop-k.product c.loop-k.invariant
