@@ -1,6 +1,6 @@
 -- The one tree of a polynomial: its monomials and their factors in order, each monomial once, no coefficient 0.
-use Rattle.std.specs.Prelude.{◌≡◌, ℕ, suc, ◌+◌, ◌%◌, ◌^◌, ◌<◌, ◌≤◌, ◌==◌, Bool, true, false, not, if◌then◌else◌}
-use Rattle.std.specs.Prelude.{List, [], ◌∷◌, IsTrue}
+use Rattle.std.specs.Prelude.{◌≡◌, ℕ, ◌+◌, ◌%◌, ◌^◌, ◌<◌, ◌≤◌, ◌==◌, false, if◌then◌else◌}
+use Rattle.std.specs.Prelude.{IsTrue}
 use Rattle.scev_tree.specs.declared.kind.Kind.{Kind}
 use Rattle.scev_tree.specs.declared.kind.Kind.TheVariants as kind
 use Rattle.scev_tree.specs.Tree.{Tree, Terms, Factors, Atom, Parts, polynomial, no_terms, term, no_factors, factor}
@@ -48,7 +48,7 @@ Ascend (factor a factors) = AreFrom a factors × Ascend factors
 
 -- the monomial stands before each of the terms
 abbrev pub IsBefore : Factors → Terms → Type 0
-IsBefore factors no_terms = Unit {0}
+IsBefore _ no_terms = Unit {0}
 IsBefore factors (term others n terms) =
     IsTrue (lower (monomial_code factors) (monomial_code others)) × IsBefore factors terms
 

@@ -1,5 +1,5 @@
 -- The order of atoms, of monomials and of trees.
-use Rattle.std.specs.Prelude.{ℕ, suc, nat_lt, ◌==◌, Bool, true, false, ◌&&◌, ◌||◌, List, [], ◌∷◌, ◌++◌, Option, Some, None}
+use Rattle.std.specs.Prelude.{ℕ, suc, nat_lt, ◌==◌, Bool, true, false, ◌&&◌, ◌||◌, List, [], ◌∷◌, ◌++◌, Some, None}
 use Rattle.scev_tree.specs.declared.kind.Kind.{Kind}
 use Rattle.scev_tree.specs.declared.kind.Kind.TheVariants as kind
 use Rattle.scev_tree.specs.Tree.{Tree, Terms, Factors, Atom, Parts, polynomial, no_terms, term, no_factors, factor}
@@ -30,7 +30,7 @@ numbers _ = []
 
 abbrev pub count_terms : Terms → ℕ
 count_terms no_terms = 0
-count_terms (term factors coefficient terms) = suc (count_terms terms)
+count_terms (term _ coefficient terms) = suc (count_terms terms)
 
 abbrev pub count_factors : Factors → ℕ
 count_factors no_factors = 0
@@ -42,7 +42,7 @@ count_parts (part tree parts) = suc (count_parts parts)
 
 abbrev pub coefficients : Terms → List ℕ
 coefficients no_terms = []
-coefficients (term factors coefficient terms) = coefficient ∷ coefficients terms
+coefficients (term _ coefficient terms) = coefficient ∷ coefficients terms
 
 -- Atoms are ordered by rank, width, loops and registers by their numbers, and then by their parts; monomials by how
 -- many factors they have, and then factor by factor; trees by how many monomials they have, monomial by monomial, by
