@@ -4,3 +4,12 @@ pub mod Order
 pub mod Canonical
 pub mod Size
 pub mod Invariant
+pub mod Terms
+pub mod Outcome
+pub mod Gather
+pub mod Sums
+pub mod Made
+pub mod Casts
+pub mod Quotients
+pub mod Minima
+pub mod Turns
