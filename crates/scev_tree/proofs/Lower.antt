@@ -128,3 +128,10 @@ told_same (x ∷ xs) (y ∷ ys) h =
 pub same_itself : (xs : List ℕ) → same_code xs xs ≡ true
 same_itself [] = refl
 same_itself (x ∷ xs) = rw (same_itself xs) (grind (arith, nat_tests))
+
+-- codes that are told apart aren't one
+pub told_apart : (xs ys : List ℕ) → same_code xs ys ≡ false → xs ≡ ys → ⊥
+told_apart xs ys h e =
+    let itself = same_itself xs in
+    let same : same_code xs xs ≡ same_code xs ys = ap (same_code xs) e in
+    cc
