@@ -1,3 +1,5 @@
 pub mod Codes
 pub mod Lower
 pub mod Inserted
+pub mod Arithmetic
+pub mod Values
