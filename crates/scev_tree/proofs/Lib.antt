@@ -3,3 +3,4 @@ pub mod Lower
 pub mod Inserted
 pub mod Arithmetic
 pub mod Values
+pub mod Below
