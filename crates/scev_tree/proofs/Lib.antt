@@ -4,3 +4,4 @@ pub mod Inserted
 pub mod Arithmetic
 pub mod Values
 pub mod Below
+pub mod Invariance
