@@ -19,7 +19,10 @@ same_register : (r s : ValueId) → r.0 ≡ s.0 → r ≡ s
 same_register r s e = ap (λ n. record { 0 = n }) e
 
 -- a kind is known by its rank and its numbers, and how many these are by the rank
-one_kind : (k k' : Kind) (x y : List ℕ) → rank k ≡ rank k' → numbers k ++ x ≡ numbers k' ++ y → (k ≡ k') × (x ≡ y)
+one_kind : (k k' : Kind) (x y : List ℕ)
+    → rank k ≡ rank k'
+    → numbers k ++ x ≡ numbers k' ++ y
+    → (k ≡ k') × (x ≡ y)
 one_kind kind.Trunc kind.Trunc x y r e = (refl, e)
 one_kind kind.Zext kind.Zext x y r e = (refl, e)
 one_kind kind.Sext kind.Sext x y r e = (refl, e)
@@ -57,7 +60,7 @@ coefficients_apart (term f c s) (term g d t) x y n e =
     let rest = coefficients_apart s t x y (cc) (cc) in
     (cc, rest.1)
 
--- by the code, a tree and what stands behind it; and the same of terms, factors and parts of one count, and of atoms
+-- by its code, a tree and what stands behind it; and the same of terms, factors and parts of one count, and of atoms
 mutual
   pub trees_apart : (a b : Tree) (x y : List ℕ)
       → tree_code a ++ x ≡ tree_code b ++ y
@@ -110,8 +113,10 @@ mutual
   atoms_apart (atom k w p) (atom l v q) x y e =
       let left = append_assoc (numbers k) (count_parts p ∷ parts_code p) x in
       let right = append_assoc (numbers l) (count_parts q ∷ parts_code q) y in
-      let kinds = one_kind k l (count_parts p ∷ (parts_code p ++ x)) (count_parts q ∷ (parts_code q ++ y)) (cc) (cc) in
-      let ends : count_parts p ∷ (parts_code p ++ x) ≡ count_parts q ∷ (parts_code q ++ y) = kinds.1 in
+      let behind = count_parts p ∷ (parts_code p ++ x) in
+      let behind' = count_parts q ∷ (parts_code q ++ y) in
+      let kinds = one_kind k l behind behind' (cc) (cc) in
+      let ends : behind ≡ behind' = kinds.1 in
       let rest = parts_apart p q x y (cc) (cc) in
       (cc (kinds.0, rest.0), rest.1)
 
@@ -139,4 +144,6 @@ one_atom a b e = (atoms_apart a b [] [] (ap (λ code. code ++ []) e)).0
 
 -- monomials of one code are one
 pub one_monomial : (f g : Factors) → monomial_code f ≡ monomial_code g → f ≡ g
-one_monomial f g e = (factors_apart f g [] [] (cc) (let codes : factors_code f ≡ factors_code g = cc in ap (λ code. code ++ []) codes)).0
+one_monomial f g e =
+    let codes : factors_code f ≡ factors_code g = cc in
+    (factors_apart f g [] [] (cc) (ap (λ code. code ++ []) codes)).0

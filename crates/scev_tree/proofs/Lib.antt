@@ -4,4 +4,5 @@ pub mod Inserted
 pub mod Arithmetic
 pub mod Values
 pub mod Below
+pub mod Leaves
 pub mod Invariance

@@ -2,7 +2,7 @@
 use Rattle.std.proofs.Common.{◌≡◌, ℕ, ◌<◌, Bool, true, false, ◌&&◌, ◌||◌, nat_lt, ◌==◌, ◌⊎◌, inl, inr}
 use Rattle.std.proofs.Common.{List, [], ◌∷◌, refl, sym, ap, ◌∙◌, subst, arith}
 use Rattle.std.proofs.lemmas.Bool.Decides.{nat_tests}
-use Rattle.std.specs.Bool.{IsTrue}
+use Rattle.std.specs.Bool.{Decides}
 use Rattle.std.proofs.lemmas.Bool.{cases_order}
 use Rattle.scev_tree.specs.Order.{lower, same_code}
 
@@ -135,3 +135,8 @@ told_apart xs ys h e =
     let itself = same_itself xs in
     let same : same_code xs xs ≡ same_code xs ys = ap (same_code xs) e in
     cc
+
+-- `same_code` tells exactly whether two codes are one
+pub same_code_decides : (xs ys : List ℕ) → Decides (same_code xs ys) (xs ≡ ys)
+same_code_decides xs ys =
+    (told_same xs ys, λ e. subst (λ zs. same_code xs zs ≡ true) e (same_itself xs))
