@@ -40,14 +40,14 @@ product_comm w None None = refl
 pub sum_assoc : (w : ℕ) (x y z : Option ℕ) → sum w (sum w x y) z ≡ sum w x (sum w y z)
 sum_assoc w (Some a) (Some b) (Some c) = ap Some (
     mod-add-mod (a + b) (2 ^ w) c ∙ ap (λ n. n % 2 ^ w) (add_assoc a b c) ∙ sym (add-mod-mod a (b + c) (2 ^ w))
-  )
+    )
 sum_assoc w _ _ _ = refl
 
 -- three factors, in either grouping
 pub product_assoc : (w : ℕ) (x y z : Option ℕ) → product w (product w x y) z ≡ product w x (product w y z)
 product_assoc w (Some a) (Some b) (Some c) = ap Some (
     mul-mod_first (a * b) c (2 ^ w) ∙ ap (λ n. n % 2 ^ w) (mul_assoc a b c) ∙ sym (mul-mod_second a (b * c) (2 ^ w))
-  )
+    )
 product_assoc w _ _ _ = refl
 
 -- a product of a sum is the sum of the products, also where a side has no number
@@ -55,7 +55,7 @@ pub distributes : (w : ℕ) (x y z : Option ℕ)
     → product w x (sum w y z) ≡ sum w (product w x y) (product w x z)
 distributes w (Some a) (Some b) (Some c) = ap Some (
     mul-mod_second a (b + c) (2 ^ w) ∙ ap (λ n. n % 2 ^ w) (mul-add a b c) ∙ add-mod (a * b) (a * c) (2 ^ w)
-  )
+    )
 distributes w _ _ _ = refl
 
 -- ---- what follows
@@ -96,10 +96,10 @@ pub nothing_added : (w c k : ℕ) (x y : Option ℕ)
 nothing_added w c k (Some v) (Some t) e below h =
     let none : v * 0 ≡ 0 = omega arith in
     let gone : v * c % 2 ^ w ≡ 0 =
-        sym (mul-mod_second v c (2 ^ w)) ∙ ap (λ n. v * n % 2 ^ w) e ∙ ap (λ n. n % 2 ^ w) none
-        ∙ mod-eq_of_lt (pow_pos w) in
+    sym (mul-mod_second v c (2 ^ w)) ∙ ap (λ n. v * n % 2 ^ w) e ∙ ap (λ n. n % 2 ^ w) none
+    ∙ mod-eq_of_lt (pow_pos w) in
     let left : (v * c % 2 ^ w + t) % 2 ^ w ≡ t =
-        ap (λ n. (n + t) % 2 ^ w) gone ∙ ap (λ n. n % 2 ^ w) (zero-add t) ∙ mod-eq_of_lt below in
+    ap (λ n. (n + t) % 2 ^ w) gone ∙ ap (λ n. n % 2 ^ w) (zero-add t) ∙ mod-eq_of_lt below in
     sym (ap Some left) ∙ h
 nothing_added w c k (Some v) None e below h = absurd cc
 nothing_added w c k None (Some t) e below h = absurd cc

@@ -1,6 +1,6 @@
 -- The value of a canonical atom of w bits is below 2^w, where that of a register is.
-use Rattle.std.proofs.Common.{◌≡◌, ℕ, zero, suc, ◌+◌, ◌-◌, ◌*◌, ◌/◌, ◌%◌, ◌^◌, ◌<◌, ◌≤◌, max, min, if◌then◌else◌}
-use Rattle.std.proofs.Common.{List, [], ◌∷◌, Option, Some, None, refl, sym, ap, ◌∙◌, subst, arith, ℤ, pos, negsuc}
+use Rattle.std.proofs.Common.{◌≡◌, ℕ, zero, suc, ◌/◌, ◌%◌, ◌^◌, ◌<◌, ◌≤◌, max, min}
+use Rattle.std.proofs.Common.{List, [], ◌∷◌, Option, Some, None, sym, subst, arith, ℤ, pos, negsuc}
 use Rattle.std.specs.Option.{option_map}
 use Rattle.std.specs.Prelude.{int_lt}
 use Rattle.std.proofs.lemmas.Bool.{cond_both}
@@ -10,9 +10,8 @@ use Rattle.scev_base.specs.Residue.{residue, reading}
 use Rattle.std.proofs.Math.Nat.{pow-le-pow_right}
 use Rattle.scev_tree.specs.declared.kind.Kind.{Kind}
 use Rattle.scev_tree.specs.declared.kind.Kind.TheVariants as kind
-use Rattle.scev_tree.specs.Tree.{Tree, Terms, Factors, Atom, Parts, polynomial, no_terms, term, no_factors, factor}
+use Rattle.scev_tree.specs.Tree.{Tree, Parts}
 use Rattle.scev_tree.specs.Tree.{atom, no_parts, part, width_of}
-use Rattle.scev_tree.specs.Order.{count_parts}
 use Rattle.scev_tree.specs.Canonical.{HaveWidth, HasParts, IsCanonicalAtom}
 use Rattle.scev_tree.specs.Value.{lifted, sum, quotient, signed_max, signed_min, joined, least_in_sequence, values}
 use Rattle.scev_tree.specs.Value.{tree_value, atom_value, parts_values}

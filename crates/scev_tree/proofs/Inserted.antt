@@ -1,7 +1,6 @@
 -- A factor, or a monomial, more: the list stays in order, and canonical.
-use Rattle.std.proofs.Common.{◌≡◌, ℕ, suc, ◌+◌, ◌%◌, ◌^◌, ◌<◌, ◌≤◌, Bool, true, false, if◌then◌else◌, ◌==◌, ◌⊎◌, inl, inr}
+use Rattle.std.proofs.Common.{◌≡◌, ℕ, ◌+◌, ◌%◌, ◌^◌, ◌<◌, true, false, ◌==◌, inl, inr}
 use Rattle.std.proofs.Common.{List, [], ◌∷◌, refl, sym, ap, ◌∙◌, subst, arith}
-use Rattle.std.specs.Bool.{IsTrue}
 use Rattle.std.specs.List.Sorted.{IsPermutation}
 use Rattle.std.proofs.lemmas.Bool.{cond_both, cond-true, cond-false, eqb-false}
 use Rattle.std.proofs.lemmas.Nat.{pow_pos, mod_below}
@@ -120,8 +119,8 @@ pub with_factor_commutes : (a b : Atom) (f : Factors)
 with_factor_commutes a b f =
     elim (cases_lower (atom_code a) (atom_code b)) [
       | inl e ↦
-        let same = one_atom a b e in
-        ap (λ x. with_factor x (with_factor b f)) same ∙ sym (ap (λ x. with_factor b (with_factor x f)) same)
+          let same = one_atom a b e in
+          ap (λ x. with_factor x (with_factor b f)) same ∙ sym (ap (λ x. with_factor b (with_factor x f)) same)
       | inr o ↦ elim o [
         | inl h ↦ lower_commutes a b f h
         | inr h ↦ sym (lower_commutes b a f h)
@@ -226,8 +225,14 @@ with_term_canonical w f c (term others n ts) ascends atoms h =
     let before : IsBefore f ts = subst (λ g. IsBefore g ts) (sym one) h.4 in
     before_terms_canonical w f (c + n) ts ascends atoms before h.5)
     (λ apart. cond_both (lower (monomial_code others) (monomial_code f)) _ _ (AreCanonicalTerms w)
-    (λ behind. (h.0, h.1, h.2, h.3,
-    with_term_behind others w f c ts behind h.4, with_term_canonical w f c ts ascends atoms h.5))
+    (λ behind. (
+      h.0,
+      h.1,
+      h.2,
+      h.3,
+      with_term_behind others w f c ts behind h.4,
+      with_term_canonical w f c ts ascends atoms h.5,
+    ))
     (λ from.
     let first = before_other f others apart from in
     before_terms_canonical w f c (term others n ts) ascends atoms (first, before_again f others ts first h.4) h))

@@ -1,5 +1,5 @@
 -- What a tree stands for, given the numbers that registers hold and the turns of the loops.
-use Rattle.std.specs.Prelude.{ℕ, zero, suc, ◌+◌, ◌*◌, ◌/◌, ◌%◌, ◌^◌, List, [], ◌∷◌, map, min, max, if◌then◌else◌}
+use Rattle.std.specs.Prelude.{ℕ, zero, ◌+◌, ◌*◌, ◌/◌, ◌%◌, ◌^◌, List, [], ◌∷◌, map, min, max, if◌then◌else◌}
 use Rattle.std.specs.Prelude.{Option, Some, None, option_map, int_lt}
 use Rattle.scev_base.specs.Iterated.{iterated}
 use Rattle.scev_base.specs.Residue.{residue, reading}

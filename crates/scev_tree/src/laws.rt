@@ -20,6 +20,6 @@ pub fn terms_are_added()
     ensures { (held : ℕ → Option ℕ) (turns : ℕ → ℕ)
         (w : ℕ) (factors : Factors) (coefficient : ℕ) (terms : Terms) (value : ℕ)
         → sum w (product w (factors_value held turns w factors) (Some coefficient))
-            (terms_value held turns w terms) ≡ Some value
+        (terms_value held turns w terms) ≡ Some value
         → terms_value held turns w (with_term w factors coefficient terms) ≡ Some value }
 {}
