@@ -8,7 +8,7 @@ use Rattle.scev_base.specs.declared.ids.ExprId.{ExprId}
 use Rattle.scev_arena.specs.declared.node.Node.{Node}
 use Rattle.scev_arena.specs.Nodes.{same_node}
 use Rattle.scev_arena.specs.Standing.{MayStand, IsArena, IsGrown}
-use Rattle.scev_arena.proofs.NodeLaws.{same_node_decides}
+use Rattle.scev_arena.specs.NodeLaws.{same_node_decides}
 use Rattle.scev_arena.proofs.Places.{place_within, place_of_more, take_front, take_before}
 
 -- the nodes with one that is new

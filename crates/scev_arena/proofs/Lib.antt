@@ -1,4 +1,3 @@
-pub mod NodeLaws
 pub mod FromTrees
 pub mod Places
 pub mod Inductions

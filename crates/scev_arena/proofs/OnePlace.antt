@@ -8,7 +8,7 @@ use Rattle.scev_arena.specs.declared.node.Node.{Node}
 use Rattle.scev_arena.specs.declared.node.Node.TheVariants as node
 use Rattle.scev_arena.specs.Meaning.{Meant, TreeOf, AtomOf, node_meant, meanings, tree_of, polynomial_of}
 use Rattle.scev_arena.specs.Standing.{AreTrees, AreOverAtoms, MayStand, IsArena}
-use Rattle.scev_arena.proofs.NodeLaws.{one_id, one_width}
+use Rattle.scev_arena.specs.NodeLaws.{one_id, one_width}
 use Rattle.scev_arena.proofs.Places.{at_place, place_within, place_of_more}
 use Rattle.scev_arena.proofs.Inductions.{front_is_arena, last_stands, last_is_new, by_nodes}
 use Rattle.scev_arena.proofs.PlacesStay.{one_more, as_many}

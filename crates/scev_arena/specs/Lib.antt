@@ -1,3 +1,4 @@
 pub mod Nodes
+pub mod NodeLaws
 pub mod Meaning
 pub mod Standing

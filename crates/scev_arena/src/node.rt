@@ -46,7 +46,7 @@ impl Node {
 
 impl PartialEq for Node {
     ghost use Rattle.scev_arena.specs.Nodes.{same_node};
-    ghost use Rattle.scev_arena.proofs.NodeLaws.{same_node_partial};
+    ghost use Rattle.scev_arena.specs.NodeLaws.{same_node_partial};
 
     ghost eq = { same_node };
 
@@ -79,14 +79,14 @@ impl PartialEq for Node {
 }
 
 impl Eq for Node {
-    ghost use Rattle.scev_arena.proofs.NodeLaws.{same_node_laws};
+    ghost use Rattle.scev_arena.specs.NodeLaws.{same_node_laws};
 
     ghost laws = { same_node_laws };
 }
 
 impl Hash for Node {
     ghost use Rattle.scev_arena.specs.Nodes.{node_input};
-    ghost use Rattle.scev_arena.proofs.NodeLaws.{same_node_alike};
+    ghost use Rattle.scev_arena.specs.NodeLaws.{same_node_alike};
 
     ghost hash_input = { node_input };
 

@@ -1,6 +1,6 @@
 -- Nodes are equal exactly where they are one.
 use Rattle.std.proofs.Common.{◌≡◌, ℕ, ◌≤◌, Bool, true, false, ◌&&◌, ◌==◌, List, Option, Some, None, refl, sym, ap, ◌∙◌, subst}
-use Rattle.std.proofs.Props.{props}
+use Rattle.std.proofs.Math.Bridge.{le_prop}
 use mathlib.Core.HLevel.{is_prop→PathP}
 use Rattle.std.proofs.lemmas.Bool.{false≢true, and_parts, and_from}
 use Rattle.std.proofs.lemmas.Bool.Decides.{Decides-eqb, Decides-and}
@@ -8,6 +8,7 @@ use Rattle.std.proofs.lemmas.Slice.Eq.{slice_eq-Decides}
 use Rattle.std.specs.Bool.{Decides}
 use Rattle.std.specs.Cmp.{IsEquivalence, IsPartialEquivalence, partial_equiv_from_equiv, decided}
 use Rattle.std.specs.Cmp.Lexicographic.{pointwise}
+use Rattle.std.specs.Option.{option_eq}
 use Rattle.scev_base.specs.declared.ids.ExprId.{ExprId}
 use Rattle.scev_base.specs.declared.ids.LoopId.{LoopId}
 use Rattle.scev_base.specs.declared.ids.ValueId.{ValueId}
@@ -45,8 +46,8 @@ one_value x y e = ap value_of e
 pub one_width : (v w : Width) → v.bits ≡ w.bits → v ≡ w
 one_width v w e = λ i. record {
   bits = e i;
-  at_least_one = is_prop→PathP (λ j. 1 ≤ e j) (λ j. hlevel props) v.at_least_one w.at_least_one i;
-  at_most_64 = is_prop→PathP (λ j. e j ≤ 64) (λ j. hlevel props) v.at_most_64 w.at_most_64 i;
+  at_least_one = is_prop→PathP (λ j. 1 ≤ e j) (λ j. le_prop) v.at_least_one w.at_least_one i;
+  at_most_64 = is_prop→PathP (λ j. e j ≤ 64) (λ j. le_prop) v.at_most_64 w.at_most_64 i;
 }
 
 one_term : (s t : Term) → s.ids ≡ t.ids → s.coefficient ≡ t.coefficient → s ≡ t
@@ -73,13 +74,17 @@ width_decides : (v w : Width) → Decides (v.bits == w.bits) (v ≡ w)
 width_decides v w =
     (λ h. one_width v w ((Decides-eqb v.bits w.bits).0 h), λ e. (Decides-eqb v.bits w.bits).1 (ap (λ u. u.bits) e))
 
-one_home : (x y : Option LoopId) → same_kind (kind.Leaf (value_of 0) x) (kind.Leaf (value_of 0) y) ≡ true → x ≡ y
-unfolding value_of
+one_home : (x y : Option LoopId) → option_eq (λ a b. a.0 == b.0) x y ≡ true → x ≡ y
 one_home None None h = refl
 one_home None (Some y) h = absurd (false≢true h)
 one_home (Some x) None h = absurd (false≢true h)
-one_home (Some x) (Some y) h = ap Some (one_loop x y ((Decides-eqb x.0 y.0).0 ?))
+one_home (Some x) (Some y) h = ap Some (one_loop x y ((Decides-eqb x.0 y.0).0 h))
 
+home_itself : (x : Option LoopId) → option_eq (λ a b. a.0 == b.0) x x ≡ true
+home_itself None = refl
+home_itself (Some x) = (Decides-eqb x.0 x.0).1 refl
+
+-- kinds that the test joins are one
 one_kind : (k l : Kind) → same_kind k l ≡ true → k ≡ l
 one_kind kind.Trunc kind.Trunc h = refl
 one_kind kind.Zext kind.Zext h = refl
@@ -91,7 +96,9 @@ one_kind kind.Smin kind.Smin h = refl
 one_kind kind.Umin kind.Umin h = refl
 one_kind kind.Seq kind.Seq h = refl
 one_kind (kind.Rec x) (kind.Rec y) h = ap kind.Rec (one_loop x y ((Decides-eqb x.0 y.0).0 h))
-one_kind (kind.Leaf v x) (kind.Leaf w y) h = ?
+one_kind (kind.Leaf v x) (kind.Leaf w y) h =
+    let both = and_parts (v.0 == w.0) (option_eq (λ a b. a.0 == b.0) x y) h in
+    ap (λ u. kind.Leaf u x) (one_value v w ((Decides-eqb v.0 w.0).0 both.0)) ∙ ap (kind.Leaf w) (one_home x y both.1)
 one_kind _ _ h = absurd (false≢true h)
 
 same_kind_itself : (k : Kind) → same_kind k k ≡ true
@@ -105,27 +112,35 @@ same_kind_itself kind.Smin = refl
 same_kind_itself kind.Umin = refl
 same_kind_itself kind.Seq = refl
 same_kind_itself (kind.Rec x) = (Decides-eqb x.0 x.0).1 refl
-same_kind_itself (kind.Leaf v None) = ?
-same_kind_itself (kind.Leaf v (Some x)) = ?
-
-kind_decides : (k l : Kind) → Decides (same_kind k l) (k ≡ l)
-kind_decides k l = (one_kind k l, λ e. ap (same_kind k) (sym e) ∙ same_kind_itself k)
+same_kind_itself (kind.Leaf v x) =
+    and_from (v.0 == v.0) (option_eq (λ a b. a.0 == b.0) x x) ((Decides-eqb v.0 v.0).1 refl) (home_itself x)
 
 -- ---- the test of nodes
 
+-- nodes that the test joins are one
+one_node : (m n : Node) → same_node m n ≡ true → m ≡ n
+one_node (node.Tree v ss) (node.Tree w ts) h =
+    let parts = and_parts (v.bits == w.bits) (pointwise same_term ss ts) h in
+    ap (λ u. node.Tree u ss) ((width_decides v w).0 parts.0) ∙ ap (node.Tree w) ((terms_decide ss ts).0 parts.1)
+one_node (node.Atom k v xs) (node.Atom l w ys) h =
+    let parts = and_parts (same_kind k l) ((v.bits == w.bits) && pointwise same_id xs ys) h in
+    let others = and_parts (v.bits == w.bits) (pointwise same_id xs ys) parts.1 in
+    ap (λ u. node.Atom u v xs) (one_kind k l parts.0)
+    ∙ ap (λ u. node.Atom l u xs) ((width_decides v w).0 others.0)
+    ∙ ap (node.Atom l w) ((ids_decide xs ys).0 others.1)
+one_node (node.Tree v ss) (node.Atom l w ys) h = absurd (false≢true h)
+one_node (node.Atom k v xs) (node.Tree w ts) h = absurd (false≢true h)
+
+same_node_itself : (n : Node) → same_node n n ≡ true
+same_node_itself (node.Tree w ts) =
+    and_from (w.bits == w.bits) (pointwise same_term ts ts) ((width_decides w w).1 refl) ((terms_decide ts ts).1 refl)
+same_node_itself (node.Atom k w ids) =
+    and_from (same_kind k k) ((w.bits == w.bits) && pointwise same_id ids ids) (same_kind_itself k)
+      (and_from (w.bits == w.bits) (pointwise same_id ids ids) ((width_decides w w).1 refl) ((ids_decide ids ids).1 refl))
+
+-- The test tells exactly where nodes are one.
 pub same_node_decides : (m n : Node) → Decides (same_node m n) (m ≡ n)
-same_node_decides (node.Tree v ss) (node.Tree w ts) =
-    let both = Decides-and (v.bits == w.bits) (pointwise same_term ss ts) (width_decides v w) (terms_decide ss ts) in
-    (λ h. let parts = both.0 h in ap (λ u. node.Tree u ss) parts.0 ∙ ap (node.Tree w) parts.1,
-    λ e. both.1 (cc e, cc e))
-same_node_decides (node.Atom k v xs) (node.Atom l w ys) =
-    let rest = Decides-and (v.bits == w.bits) (pointwise same_id xs ys) (width_decides v w) (ids_decide xs ys) in
-    let all = Decides-and (same_kind k l) ((v.bits == w.bits) && pointwise same_id xs ys) (kind_decides k l) rest in
-    (λ h. let parts = all.0 h in
-      ap (λ u. node.Atom u v xs) parts.0 ∙ ap (λ u. node.Atom l u xs) parts.1.0 ∙ ap (node.Atom l w) parts.1.1,
-    λ e. all.1 (cc e, (cc e, cc e)))
-same_node_decides (node.Tree v ss) (node.Atom l w ys) = (λ h. absurd (false≢true h), λ e. absurd (cc e))
-same_node_decides (node.Atom k v xs) (node.Tree w ts) = (λ h. absurd (false≢true h), λ e. absurd (cc e))
+same_node_decides m n = (one_node m n, λ e. ap (same_node m) (sym e) ∙ same_node_itself m)
 
 pub same_node_laws : IsEquivalence same_node
 same_node_laws = decided same_node same_node_decides
