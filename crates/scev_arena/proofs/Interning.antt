@@ -17,12 +17,12 @@ with_node old n = if list_any (same_node n) old then old else old ++ n ∷ []
 
 -- no place holds a node that no test finds
 absent : (old : List Node) (n : Node) → list_any (same_node n) old ≡ false → (i : ℕ) → slice_get old i ≡ Some n → ⊥
-absent old n no i e =
-    let found = any_passes_from_place (same_node n) old i n e ((same_node_decides n n).1 refl) in
-    false≢true (sym no ∙ found)
+absent old n unfound i e =
+    let passes = any_passes_from_place (same_node n) old i n e ((same_node_decides n n).1 refl) in
+    false≢true (sym unfound ∙ passes)
 
 no_member : (old : List Node) (n : Node) → list_any (same_node n) old ≡ false → Contains old n → ⊥
-no_member old n no member = absent old n no member.0 (slice_get-get_or old member.0 n member.1 ∙ ap Some member.2)
+no_member old n unfound member = absent old n unfound member.0 (slice_get-get_or old member.0 n member.1 ∙ ap Some member.2)
 
 -- the place that a test found holds the node
 pub stored_node : (nodes : List Node) (at : ℕ) (n stored : Node) → slice_get nodes at ≡ Some stored
@@ -66,8 +66,8 @@ pub interned_arena : (old new : List Node) (n : Node) → new ≡ with_node old 
 interned_arena old new n e arena may = subst IsArena (sym e) (by_test (list_any (same_node n) old) refl)
   where
     by_test : (b : Bool) → list_any (same_node n) old ≡ b → IsArena (if b then old else old ++ n ∷ [])
-    by_test true yes = arena
-    by_test false no = grown_arena old n arena may (absent old n no)
+    by_test true found = arena
+    by_test false unfound = grown_arena old n arena may (absent old n unfound)
 
 -- The arena has grown by the node, if that is new.
 pub interned_grows : (old new : List Node) (n : Node) (id : ExprId) → new ≡ with_node old n
@@ -80,11 +80,11 @@ interned_grows old new n id e there =
     last_place : list_any (same_node n) old ≡ false
         → (((id.0 < length old) × (slice_get old id.0 ≡ Some n)) ⊎ ((id.0 ≡ length old) × (n ≡ n)))
         → id.0 ≡ length old
-    last_place no (inl here) = absurd (absent old n no id.0 here.1)
-    last_place no (inr last) = last.0
+    last_place unfound (inl here) = absurd (absent old n unfound id.0 here.1)
+    last_place unfound (inr last) = last.0
 
     by_test : (b : Bool) → list_any (same_node n) old ≡ b
         → slice_get (if b then old else old ++ n ∷ []) id.0 ≡ Some n
         → IsGrown old n (if b then old else old ++ n ∷ []) id
-    by_test true yes at = inl (at, refl)
-    by_test false no at = inr ((no_member old n no, refl), last_place no (place_of_more old n n id.0 at))
+    by_test true found at = inl (at, refl)
+    by_test false unfound at = inr ((no_member old n unfound, refl), last_place unfound (place_of_more old n n id.0 at))

@@ -1,5 +1,5 @@
 -- Ascending ids of atoms that make one monomial are one list.
-use Rattle.std.proofs.Common.{◌≡◌, ℕ, ◌+◌, ◌<◌, ◌⊎◌, inl, inr, Bool, true, false, ◌&&◌, ◌==◌, if◌then◌else◌, List, [], ◌∷◌, ◌++◌, length, Option, Some, None, slice_get, refl, sym, ap, ◌∙◌, subst, arith}
+use Rattle.std.proofs.Common.{◌≡◌, ℕ, ◌+◌, ◌<◌, ◌⊎◌, inl, inr, Bool, true, false, ◌&&◌, ◌==◌, if◌then◌else◌, List, [], ◌∷◌, ◌++◌, length, Option, Some, None, slice_get, refl, sym, ap, ◌∙◌, subst, arith, zero-add}
 use Rattle.std.specs.Bool.{Decides}
 use Rattle.std.proofs.lemmas.Bool.{cases_eq, ne_eqb, and_from}
 use Rattle.std.proofs.lemmas.Bool.Decides.{Decides-eqb, same_from_decides}
@@ -130,7 +130,8 @@ module _ (nodes : List Node) (made : IsWellMade nodes) (different : AreApart nod
       elim (cases_eq id.0 x.0) [
         | inl e ↦ inr (subst (λ k. HoldsAtom w (slice_get nodes k)) (sym e) h.0)
         | inr other ↦ elim (absent_or_atom w id ids h.1) [
-          | inl none ↦ inl (ap (λ b. once b + times_in id ids) (ne_eqb id.0 x.0 other) ∙ none)
+          | inl none ↦ inl (ap (λ b. once b + times_in id ids) (ne_eqb id.0 x.0 other)
+            ∙ zero-add (times_in id ids) ∙ none)
           | inr at ↦ inr at
         ]
       ]

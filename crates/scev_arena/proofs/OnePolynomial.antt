@@ -1,5 +1,5 @@
 -- Canonical lists of terms over atoms that make one polynomial are one list.
-use Rattle.std.proofs.Common.{◌≡◌, ℕ, ◌+◌, ◌%◌, ◌^◌, ◌<◌, ◌⊎◌, inl, inr, Bool, true, false, ◌==◌, if◌then◌else◌, List, [], ◌∷◌, ◌++◌, refl, sym, ap, ◌∙◌, subst, arith}
+use Rattle.std.proofs.Common.{◌≡◌, ℕ, ◌+◌, ◌%◌, ◌^◌, ◌<◌, ◌⊎◌, inl, inr, Bool, true, false, ◌==◌, if◌then◌else◌, List, [], ◌∷◌, ◌++◌, refl, sym, ap, ◌∙◌, subst, arith, zero-add}
 use Rattle.std.specs.Bool.{Decides}
 use Rattle.std.proofs.Math.Nat.{mod-mod, mod-eq_of_lt}
 use Rattle.std.proofs.lemmas.Bool.{eqb-true, cases_Bool, false≢true}
@@ -56,13 +56,18 @@ before_adds w f c terms g = by_test (c % 2 ^ w == 0) refl
     by_test : (b : Bool) → (c % 2 ^ w == 0) ≡ b
         → coefficient_in g (if b then terms else term f (c % 2 ^ w) terms) % 2 ^ w
         ≡ (chosen (same_monomial f g) c + coefficient_in g terms) % 2 ^ w
-    unfolding coefficient_in
     by_test true e =
         sum_residue (2 ^ w) 0 (chosen (same_monomial f g) c) (coefficient_in g terms) (coefficient_in g terms)
           (chosen_none (same_monomial f g) c (2 ^ w) (eqb-true (c % 2 ^ w) 0 e)) refl
     by_test false e =
         sum_residue (2 ^ w) (chosen (same_monomial f g) (c % 2 ^ w)) (chosen (same_monomial f g) c)
           (coefficient_in g terms) (coefficient_in g terms) (chosen_residue (same_monomial f g) c (2 ^ w)) refl
+
+-- where one term more comes to stand
+abbrev placed : ℕ → Factors → ℕ → Factors → ℕ → Terms → Bool → Bool → Terms
+placed w f c others n terms same low =
+    if same then before_terms w f (c + n) terms
+    else (if low then term others n (with_term w f c terms) else before_terms w f c (term others n terms))
 
 -- one term more adds its coefficient at its monomial
 with_term_adds : (w : ℕ) (f : Factors) (c : ℕ) (terms : Terms) (g : Factors)
@@ -72,26 +77,20 @@ unfolding coefficient_in
 with_term_adds w f c no_terms g = before_adds w f c no_terms g
 with_term_adds w f c (term others n terms) g =
     elim (cases_Bool (same_monomial f others)) [
-      | inl yes ↦
-          let one : f ≡ others = one_monomial_of_code f others yes in
-          ap (λ b. coefficient_in g (placed b (lower (monomial_code others) (monomial_code f))) % 2 ^ w) yes
+      | inl found ↦
+          let one : f ≡ others = one_monomial_of_code f others found in
+          ap (λ b. coefficient_in g (placed w f c others n terms b (lower (monomial_code others) (monomial_code f))) % 2 ^ w) found
           ∙ before_adds w f (c + n) terms g
           ∙ ap (λ k. k % 2 ^ w) (chosen_sum (same_monomial f g) c n (coefficient_in g terms)
           ∙ ap (λ h. chosen (same_monomial f g) c + (chosen (same_monomial h g) n + coefficient_in g terms)) one)
-      | inr no ↦
-          ap (λ b. coefficient_in g (placed b (lower (monomial_code others) (monomial_code f))) % 2 ^ w) no
+      | inr unfound ↦
+          ap (λ b. coefficient_in g (placed w f c others n terms b (lower (monomial_code others) (monomial_code f))) % 2 ^ w) unfound
           ∙ by_order (lower (monomial_code others) (monomial_code f))
     ]
   where
-    abbrev placed : Bool → Bool → Terms
-    placed same low =
-        if same then before_terms w f (c + n) terms
-        else (if low then term others n (with_term w f c terms) else before_terms w f c (term others n terms))
-
     by_order : (low : Bool)
-        → coefficient_in g (placed false low) % 2 ^ w
+        → coefficient_in g (placed w f c others n terms false low) % 2 ^ w
         ≡ (chosen (same_monomial f g) c + (chosen (same_monomial others g) n + coefficient_in g terms)) % 2 ^ w
-    unfolding coefficient_in
     by_order true =
         let other = chosen (same_monomial others g) n in
         let here = chosen (same_monomial f g) c in
@@ -123,9 +122,10 @@ absent_or_atoms : (nodes : List Node) (w : ℕ) (ts : List Term) (ids : List Exp
 absent_or_atoms nodes w [] ids h = inl refl
 absent_or_atoms nodes w (t ∷ ts) ids h =
     elim (cases_Bool (same_ids t.ids ids)) [
-      | inl yes ↦ inr (subst (AreAtoms nodes w) (same_is t.ids ids yes) h.0)
-      | inr no ↦ elim (absent_or_atoms nodes w ts ids h.1) [
-        | inl none ↦ inl (ap (λ b. chosen b t.coefficient + coefficient_of ts ids) no ∙ none)
+      | inl found ↦ inr (subst (AreAtoms nodes w) (same_is t.ids ids found) h.0)
+      | inr unfound ↦ elim (absent_or_atoms nodes w ts ids h.1) [
+        | inl none ↦ inl (ap (λ b. chosen b t.coefficient + coefficient_of ts ids) unfound
+          ∙ zero-add (coefficient_of ts ids) ∙ none)
         | inr at ↦ inr at
       ]
     ]
