@@ -57,7 +57,8 @@ before_adds w f c terms g = by_test (c % 2 ^ w == 0) refl
         → coefficient_in g (if b then terms else term f (c % 2 ^ w) terms) % 2 ^ w
         ≡ (chosen (same_monomial f g) c + coefficient_in g terms) % 2 ^ w
     by_test true e =
-        sum_residue (2 ^ w) 0 (chosen (same_monomial f g) c) (coefficient_in g terms) (coefficient_in g terms)
+        ap (λ k. k % 2 ^ w) (sym (zero-add (coefficient_in g terms)))
+        ∙ sum_residue (2 ^ w) 0 (chosen (same_monomial f g) c) (coefficient_in g terms) (coefficient_in g terms)
           (chosen_none (same_monomial f g) c (2 ^ w) (eqb-true (c % 2 ^ w) 0 e)) refl
     by_test false e =
         sum_residue (2 ^ w) (chosen (same_monomial f g) (c % 2 ^ w)) (chosen (same_monomial f g) c)
@@ -85,19 +86,21 @@ with_term_adds w f c (term others n terms) g =
           ∙ ap (λ h. chosen (same_monomial f g) c + (chosen (same_monomial h g) n + coefficient_in g terms)) one)
       | inr unfound ↦
           ap (λ b. coefficient_in g (placed w f c others n terms b (lower (monomial_code others) (monomial_code f))) % 2 ^ w) unfound
-          ∙ by_order (lower (monomial_code others) (monomial_code f))
+          ∙ by_order (with_term_adds w f c terms g) (lower (monomial_code others) (monomial_code f))
     ]
   where
-    by_order : (low : Bool)
+    by_order : (coefficient_in g (with_term w f c terms) % 2 ^ w
+        ≡ (chosen (same_monomial f g) c + coefficient_in g terms) % 2 ^ w)
+        → (low : Bool)
         → coefficient_in g (placed w f c others n terms false low) % 2 ^ w
         ≡ (chosen (same_monomial f g) c + (chosen (same_monomial others g) n + coefficient_in g terms)) % 2 ^ w
-    by_order true =
+    by_order rest true =
         let other = chosen (same_monomial others g) n in
         let here = chosen (same_monomial f g) c in
         sum_residue (2 ^ w) other other (coefficient_in g (with_term w f c terms)) (here + coefficient_in g terms) refl
-          (with_term_adds w f c terms g)
+          rest
         ∙ ap (λ k. k % 2 ^ w) (swapped here other (coefficient_in g terms))
-    by_order false = before_adds w f c (term others n terms) g
+    by_order rest false = before_adds w f c (term others n terms) g
 
 -- ---- the same of a list of terms
 
