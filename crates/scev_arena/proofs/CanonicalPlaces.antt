@@ -26,9 +26,10 @@ module _ (nodes : List Node) (sound : IsSound nodes) where
   monomial_sound w [] h = (tt, tt)
   monomial_sound w (id ∷ ids) h =
       let rest = monomial_sound w ids h.1 in
-      let factors = monomial_of (meanings nodes) ids in
-      (ascend_with_factor (atom_of nodes id) factors rest.0,
-      canonical_with_factor w (atom_of nodes id) factors (sound.atoms w id h.0) rest.1)
+      let factors = monomial_of (meanings nodes) ids in (
+        ascend_with_factor (atom_of nodes id) factors rest.0,
+        canonical_with_factor w (atom_of nodes id) factors (sound.atoms w id h.0) rest.1,
+      )
 
   -- polynomials over canonical atoms
   polynomial_sound : (w : ℕ) (ts : List Term) → AreOverAtoms nodes w ts
@@ -37,7 +38,7 @@ module _ (nodes : List Node) (sound : IsSound nodes) where
   polynomial_sound w (t ∷ ts) h =
       let first = monomial_sound w t.ids h.0 in
       canonical_with_term w (monomial_of (meanings nodes) t.ids) t.coefficient (polynomial_of (meanings nodes) w ts)
-        first.0 first.1 (polynomial_sound w ts h.1)
+      first.0 first.1 (polynomial_sound w ts h.1)
 
   -- canonical parts
   parts_sound : (ids : List ExprId) → AreTrees nodes ids → AreCanonicalParts (parts_of (map (tree_of nodes) ids))
@@ -75,11 +76,11 @@ module _ (before : List Node) (n : Node) (arena : IsArena (before ++ n ∷ [])) 
       elim (cases_order id.0 (length before)) [
         | inl last ↦
             subst (λ o. IsCanonical (tree_in o)) (sym (last_holds before n id.0 last))
-              (tree_sound before sound n (last_stands before n arena) (subst HoldsTree (at_last id.0 last) h))
+            (tree_sound before sound n (last_stands before n arena) (subst HoldsTree (at_last id.0 last) h))
         | inr other ↦ elim other [
           | inl less ↦
               subst IsCanonical (sym (tree_stays before (n ∷ []) id less))
-                (sound.trees id (subst HoldsTree (place_before before (n ∷ []) id.0 less) h))
+              (sound.trees id (subst HoldsTree (place_before before (n ∷ []) id.0 less) h))
           | inr past ↦ absurd (subst HoldsTree (past_all id.0 past) h)
         ]
       ]
@@ -90,11 +91,11 @@ module _ (before : List Node) (n : Node) (arena : IsArena (before ++ n ∷ [])) 
       elim (cases_order id.0 (length before)) [
         | inl last ↦
             subst (λ o. IsCanonicalAtom w (atom_in o)) (sym (last_holds before n id.0 last))
-              (atom_sound before sound w n (last_stands before n arena) (subst (HoldsAtom w) (at_last id.0 last) h))
+            (atom_sound before sound w n (last_stands before n arena) (subst (HoldsAtom w) (at_last id.0 last) h))
         | inr other ↦ elim other [
           | inl less ↦
               subst (IsCanonicalAtom w) (sym (atom_stays before (n ∷ []) id less))
-                (sound.atoms w id (subst (HoldsAtom w) (place_before before (n ∷ []) id.0 less) h))
+              (sound.atoms w id (subst (HoldsAtom w) (place_before before (n ∷ []) id.0 less) h))
           | inr past ↦ absurd (subst (HoldsAtom w) (past_all id.0 past) h)
         ]
       ]

@@ -14,7 +14,7 @@ front_is_arena xs ys arena = record {
       subst (λ l. MayStand l n) (take_before xs ys i less) (arena.stand i n (place_before xs ys i within ∙ e));
   distinct = λ i j n e f.
       arena.distinct i j n (place_before xs ys i (place_within xs i n e) ∙ e)
-        (place_before xs ys j (place_within xs j n f) ∙ f);
+      (place_before xs ys j (place_within xs j n f) ∙ f);
 }
 
 -- what the last node of an arena meets
@@ -23,10 +23,14 @@ last_stands before n arena =
     subst (λ l. MayStand l n) (take_front before (n ∷ [])) (arena.stand (length before) n (place_behind before n []))
 
 -- the last node of an arena is none of those before it
-pub last_is_new : (before : List Node) (n : Node) → IsArena (before ++ n ∷ []) → (i : ℕ) → slice_get before i ≡ Some n → ⊥
+pub last_is_new : (before : List Node) (n : Node) → IsArena (before ++ n ∷ [])
+    → (i : ℕ)
+    → slice_get before i ≡ Some n
+    → ⊥
 last_is_new before n arena i e =
     let within = place_within before i n e in
-    let same = arena.distinct i (length before) n (place_before before (n ∷ []) i within ∙ e) (place_behind before n []) in
+    let same = arena.distinct i (length before) n (place_before before (n ∷ []) i within ∙ e)
+    (place_behind before n []) in
     omega arith
 
 go : (P : List Node → Type 0)

@@ -22,7 +22,8 @@ absent old n unfound i e =
     false≢true (sym unfound ∙ passes)
 
 no_member : (old : List Node) (n : Node) → list_any (same_node n) old ≡ false → Contains old n → ⊥
-no_member old n unfound member = absent old n unfound member.0 (slice_get-get_or old member.0 n member.1 ∙ ap Some member.2)
+no_member old n unfound member =
+    absent old n unfound member.0 (slice_get-get_or old member.0 n member.1 ∙ ap Some member.2)
 
 -- the place that a test found holds the node
 pub stored_node : (nodes : List Node) (at : ℕ) (n stored : Node) → slice_get nodes at ≡ Some stored
@@ -44,11 +45,14 @@ grown_arena old n arena may new = record { stand = stand; distinct = distinct }
               subst (λ l. MayStand l m) (sym (take_before old (n ∷ []) i less)) (arena.stand i m here.1)
           | inr last ↦
               let front : take i (old ++ n ∷ []) ≡ old =
-                ap (λ k. take k (old ++ n ∷ [])) last.0 ∙ take_front old (n ∷ []) in
+              ap (λ k. take k (old ++ n ∷ [])) last.0 ∙ take_front old (n ∷ []) in
               subst (λ l. MayStand l m) (sym front) (subst (MayStand old) last.1 may)
         ]
 
-    distinct : (i j : ℕ) (m : Node) → slice_get (old ++ n ∷ []) i ≡ Some m → slice_get (old ++ n ∷ []) j ≡ Some m → i ≡ j
+    distinct : (i j : ℕ) (m : Node)
+        → slice_get (old ++ n ∷ []) i ≡ Some m
+        → slice_get (old ++ n ∷ []) j ≡ Some m
+        → i ≡ j
     distinct i j m e f =
         elim (place_of_more old n m i e) [
           | inl here ↦ elim (place_of_more old n m j f) [
@@ -62,7 +66,11 @@ grown_arena old n arena may new = record { stand = stand; distinct = distinct }
         ]
 
 -- An arena stays one.
-pub interned_arena : (old new : List Node) (n : Node) → new ≡ with_node old n → IsArena old → MayStand old n → IsArena new
+pub interned_arena : (old new : List Node) (n : Node)
+    → new ≡ with_node old n
+    → IsArena old
+    → MayStand old n
+    → IsArena new
 interned_arena old new n e arena may = subst IsArena (sym e) (by_test (list_any (same_node n) old) refl)
   where
     by_test : (b : Bool) → list_any (same_node n) old ≡ b → IsArena (if b then old else old ++ n ∷ [])
@@ -75,7 +83,7 @@ pub interned_grows : (old new : List Node) (n : Node) (id : ExprId) → new ≡ 
     → IsGrown old n new id
 interned_grows old new n id e there =
     subst (λ l. IsGrown old n l id) (sym e)
-      (by_test (list_any (same_node n) old) refl (ap (λ l. slice_get l id.0) (sym e) ∙ there))
+    (by_test (list_any (same_node n) old) refl (ap (λ l. slice_get l id.0) (sym e) ∙ there))
   where
     last_place : list_any (same_node n) old ≡ false
         → (((id.0 < length old) × (slice_get old id.0 ≡ Some n)) ⊎ ((id.0 ≡ length old) × (n ≡ n)))

@@ -39,8 +39,8 @@ unfolding count_in
 count_with_factor a b no_factors = refl
 count_with_factor a b (factor c factors) =
     elim (lower (atom_code c) (atom_code b)) as (λ l.
-        count_in a (if l then factor c (with_factor b factors) else factor b (factor c factors))
-        ≡ once (same_atom a b) + (once (same_atom a c) + count_in a factors)) [
+    count_in a (if l then factor c (with_factor b factors) else factor b (factor c factors))
+    ≡ once (same_atom a b) + (once (same_atom a c) + count_in a factors)) [
       | true ↦ swapped (once (same_atom a b)) (once (same_atom a c)) (count_in a factors)
           (count_in a (with_factor b factors)) (count_with_factor a b factors)
       | false ↦ refl
@@ -54,7 +54,10 @@ same_code_itself (n ∷ ns) = and_from (n == n) (same_code ns ns) ((Decides-eqb 
 
 -- two places that hold one thing are one
 pub record AreApart (nodes : List Node) : Type 0 where
-  pub apart : (i j : ℕ) (held : Meant) → slice_get (meanings nodes) i ≡ Some held → slice_get (meanings nodes) j ≡ Some held → i ≡ j
+  pub apart : (i j : ℕ) (held : Meant)
+      → slice_get (meanings nodes) i ≡ Some held
+      → slice_get (meanings nodes) j ≡ Some held
+      → i ≡ j
 
 atom_held : (meant : List Meant) (w : ℕ) (n : Node) (o : Option Meant) → HoldsAtom w (Some n)
     → o ≡ Some (node_meant meant n)
@@ -75,14 +78,14 @@ module _ (nodes : List Node) (made : IsWellMade nodes) (different : AreApart nod
   atom_at_place w id h =
       let there = at_place nodes id.0 (atom_within nodes w id h) in
       atom_held (meanings nodes) w there.0 (slice_get (meanings nodes) id.0) (subst (HoldsAtom w) there.1 h)
-        (made.holds id.0 there.0 there.1)
+      (made.holds id.0 there.0 there.1)
 
   tree_at_place : (id : ExprId) → IsTreeAt nodes id
       → slice_get (meanings nodes) id.0 ≡ Some (TreeOf (tree_of nodes id))
   tree_at_place id h =
       let there = at_place nodes id.0 (tree_within nodes id h) in
       tree_held (meanings nodes) there.0 (slice_get (meanings nodes) id.0) (subst HoldsTree there.1 h)
-        (made.holds id.0 there.0 there.1)
+      (made.holds id.0 there.0 there.1)
 
   -- places of one atom, or of one tree, are one
   one_atom_place : (w : ℕ) (x y : ExprId) → IsAtomAt nodes w x → IsAtomAt nodes w y
@@ -90,14 +93,14 @@ module _ (nodes : List Node) (made : IsWellMade nodes) (different : AreApart nod
       → x.0 ≡ y.0
   one_atom_place w x y hx hy e =
       different.apart x.0 y.0 (AtomOf (atom_of nodes y)) (atom_at_place w x hx ∙ ap (λ a. Some (AtomOf a)) e)
-        (atom_at_place w y hy)
+      (atom_at_place w y hy)
 
   pub one_tree_place : (x y : ExprId) → IsTreeAt nodes x → IsTreeAt nodes y
       → tree_of nodes x ≡ tree_of nodes y
       → x.0 ≡ y.0
   one_tree_place x y hx hy e =
       different.apart x.0 y.0 (TreeOf (tree_of nodes y)) (tree_at_place x hx ∙ ap (λ t. Some (TreeOf t)) e)
-        (tree_at_place y hy)
+      (tree_at_place y hy)
 
   -- atoms are the same exactly where their places are
   same_place : (w : ℕ) (x y : ExprId) → IsAtomAt nodes w x → IsAtomAt nodes w y
@@ -105,9 +108,10 @@ module _ (nodes : List Node) (made : IsWellMade nodes) (different : AreApart nod
   same_place w x y hx hy =
       let a = atom_of nodes x in
       let b = atom_of nodes y in
-      let test : Decides (same_atom a b) (x.0 ≡ y.0) =
-        (λ h. one_atom_place w x y hx hy (one_atom_of_code a b h),
-        λ e. ap (λ k. same_atom a (atom_in (slice_get (meanings nodes) k))) (sym e) ∙ same_code_itself (atom_code a)) in
+      let test : Decides (same_atom a b) (x.0 ≡ y.0) = (
+        λ h. one_atom_place w x y hx hy (one_atom_of_code a b h),
+        λ e. ap (λ k. same_atom a (atom_in (slice_get (meanings nodes) k))) (sym e) ∙ same_code_itself (atom_code a),
+      ) in
       same_from_decides (same_atom a b) (x.0 == y.0) test (Decides-eqb x.0 y.0)
 
   -- an atom is as often a factor as its place is among the ids
@@ -131,7 +135,7 @@ module _ (nodes : List Node) (made : IsWellMade nodes) (different : AreApart nod
         | inl e ↦ inr (subst (λ k. HoldsAtom w (slice_get nodes k)) (sym e) h.0)
         | inr other ↦ elim (absent_or_atom w id ids h.1) [
           | inl none ↦ inl (ap (λ b. once b + times_in id ids) (ne_eqb id.0 x.0 other)
-            ∙ zero-add (times_in id ids) ∙ none)
+              ∙ zero-add (times_in id ids) ∙ none)
           | inr at ↦ inr at
         ]
       ]

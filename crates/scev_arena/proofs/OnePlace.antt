@@ -38,7 +38,7 @@ module _ (nodes : List Node) (made : IsWellMade nodes) (different : AreApart nod
       let bits : v.bits ≡ w.bits = cc e in
       let terms : polynomial_of (meanings nodes) v.bits ss ≡ polynomial_of (meanings nodes) w.bits ts = cc e in
       let here : polynomial_of (meanings nodes) w.bits ss ≡ polynomial_of (meanings nodes) w.bits ts =
-        ap (λ b. polynomial_of (meanings nodes) b ss) (sym bits) ∙ terms in
+      ap (λ b. polynomial_of (meanings nodes) b ss) (sym bits) ∙ terms in
       ap (λ u. node.Tree u ss) (one_width v w bits)
       ∙ ap (node.Tree w) (one_list_of_terms nodes made different w.bits ss ts
       (subst (λ b. IsCanonical b ss) bits hm.0) hn.0 (subst (λ b. AreOverAtoms nodes b ss) bits hm.1) hn.1 here)
@@ -69,10 +69,10 @@ module _ (before : List Node) (n : Node) (arena : IsArena (before ++ n ∷ [])) 
       let there = at_place before i (omega arith) in
       let m = there.0 in
       let same : Some (node_meant (meanings before) m) ≡ Some (node_meant (meanings before) n) =
-        sym (made.holds i m there.1) ∙ e ∙ ap Some (sym f) in
+      sym (made.holds i m there.1) ∙ e ∙ ap Some (sym f) in
       let meant : node_meant (meanings before) m ≡ node_meant (meanings before) n = cc same in
       let one : m ≡ n =
-        one_node before made different m n (made.stands i m there.1) (last_stands before n arena) meant in
+      one_node before made different m n (made.stands i m there.1) (last_stands before n arena) meant in
       last_is_new before n arena i (there.1 ∙ ap Some one)
 
   apart_behind : (i j : ℕ) (held : Meant)
@@ -95,7 +95,7 @@ module _ (before : List Node) (n : Node) (arena : IsArena (before ++ n ∷ [])) 
   more_apart = record {
     apart = λ i j held e f.
         apart_behind i j held (sym (ap (λ l. slice_get l i) (one_more before n)) ∙ e)
-          (sym (ap (λ l. slice_get l j) (one_more before n)) ∙ f);
+        (sym (ap (λ l. slice_get l j) (one_more before n)) ∙ f);
   }
 
 -- Two places of an arena that hold one thing are one.

@@ -59,10 +59,10 @@ before_adds w f c terms g = by_test (c % 2 ^ w == 0) refl
     by_test true e =
         ap (λ k. k % 2 ^ w) (sym (zero-add (coefficient_in g terms)))
         ∙ sum_residue (2 ^ w) 0 (chosen (same_monomial f g) c) (coefficient_in g terms) (coefficient_in g terms)
-          (chosen_none (same_monomial f g) c (2 ^ w) (eqb-true (c % 2 ^ w) 0 e)) refl
+        (chosen_none (same_monomial f g) c (2 ^ w) (eqb-true (c % 2 ^ w) 0 e)) refl
     by_test false e =
         sum_residue (2 ^ w) (chosen (same_monomial f g) (c % 2 ^ w)) (chosen (same_monomial f g) c)
-          (coefficient_in g terms) (coefficient_in g terms) (chosen_residue (same_monomial f g) c (2 ^ w)) refl
+        (coefficient_in g terms) (coefficient_in g terms) (chosen_residue (same_monomial f g) c (2 ^ w)) refl
 
 -- where one term more comes to stand
 abbrev placed : ℕ → Factors → ℕ → Factors → ℕ → Terms → Bool → Bool → Terms
@@ -80,12 +80,14 @@ with_term_adds w f c (term others n terms) g =
     elim (cases_Bool (same_monomial f others)) [
       | inl found ↦
           let one : f ≡ others = one_monomial_of_code f others found in
-          ap (λ b. coefficient_in g (placed w f c others n terms b (lower (monomial_code others) (monomial_code f))) % 2 ^ w) found
+          ap (λ b. coefficient_in g (placed w f c others n terms b (lower (monomial_code others) (monomial_code f)))
+          % 2 ^ w) found
           ∙ before_adds w f (c + n) terms g
           ∙ ap (λ k. k % 2 ^ w) (chosen_sum (same_monomial f g) c n (coefficient_in g terms)
           ∙ ap (λ h. chosen (same_monomial f g) c + (chosen (same_monomial h g) n + coefficient_in g terms)) one)
       | inr unfound ↦
-          ap (λ b. coefficient_in g (placed w f c others n terms b (lower (monomial_code others) (monomial_code f))) % 2 ^ w) unfound
+          ap (λ b. coefficient_in g (placed w f c others n terms b (lower (monomial_code others) (monomial_code f)))
+          % 2 ^ w) unfound
           ∙ by_order (with_term_adds w f c terms g) (lower (monomial_code others) (monomial_code f))
     ]
   where
@@ -98,7 +100,7 @@ with_term_adds w f c (term others n terms) g =
         let other = chosen (same_monomial others g) n in
         let here = chosen (same_monomial f g) c in
         sum_residue (2 ^ w) other other (coefficient_in g (with_term w f c terms)) (here + coefficient_in g terms) refl
-          rest
+        rest
         ∙ ap (λ k. k % 2 ^ w) (swapped here other (coefficient_in g terms))
     by_order rest false = before_adds w f c (term others n terms) g
 
@@ -117,7 +119,7 @@ coefficient_is_sum meant w (t ∷ ts) g =
     let here = chosen (same_monomial f g) t.coefficient in
     with_term_adds w f t.coefficient (polynomial_of meant w ts) g
     ∙ sum_residue (2 ^ w) here here (coefficient_in g (polynomial_of meant w ts)) (sum_in meant g ts) refl
-      (coefficient_is_sum meant w ts g)
+    (coefficient_is_sum meant w ts g)
 
 -- the ids are none of the list's, or are of atoms
 absent_or_atoms : (nodes : List Node) (w : ℕ) (ts : List Term) (ids : List ExprId) → AreOverAtoms nodes w ts
@@ -128,7 +130,7 @@ absent_or_atoms nodes w (t ∷ ts) ids h =
       | inl found ↦ inr (subst (AreAtoms nodes w) (same_is t.ids ids found) h.0)
       | inr unfound ↦ elim (absent_or_atoms nodes w ts ids h.1) [
         | inl none ↦ inl (ap (λ b. chosen b t.coefficient + coefficient_of ts ids) unfound
-          ∙ zero-add (coefficient_of ts ids) ∙ none)
+            ∙ zero-add (coefficient_of ts ids) ∙ none)
         | inr at ↦ inr at
       ]
     ]
@@ -144,11 +146,12 @@ module _ (nodes : List Node) (made : IsWellMade nodes) (different : AreApart nod
   same_monomials w xs ys hx hy ax ay =
       let f = monomial_of (meanings nodes) xs in
       let g = monomial_of (meanings nodes) ys in
-      let of_monomials : Decides (same_monomial f g) (xs ≡ ys) =
-        (λ h. one_list_of_ids nodes made different w xs ys hx hy ax ay (one_monomial_of_code f g h),
-        λ e. ap (λ l. same_monomial f (monomial_of (meanings nodes) l)) (sym e) ∙ same_code_itself (monomial_code f)) in
+      let of_monomials : Decides (same_monomial f g) (xs ≡ ys) = (
+        λ h. one_list_of_ids nodes made different w xs ys hx hy ax ay (one_monomial_of_code f g h),
+        λ e. ap (λ l. same_monomial f (monomial_of (meanings nodes) l)) (sym e) ∙ same_code_itself (monomial_code f),
+      ) in
       let of_ids : Decides (same_ids xs ys) (xs ≡ ys) =
-        (same_is xs ys, λ e. ap (same_ids xs) (sym e) ∙ same_itself xs) in
+      (same_is xs ys, λ e. ap (same_ids xs) (sym e) ∙ same_itself xs) in
       same_from_decides (same_monomial f g) (same_ids xs ys) of_monomials of_ids
 
   -- the coefficient of ids of atoms is that of their monomial
@@ -162,7 +165,7 @@ module _ (nodes : List Node) (made : IsWellMade nodes) (different : AreApart nod
   sum_is_coefficient w [] ids reduced over m at = refl
   sum_is_coefficient w (t ∷ ts) ids reduced over m at =
       ap (λ b. chosen b t.coefficient + sum_in (meanings nodes) (monomial_of (meanings nodes) ids) ts)
-        (same_monomials w t.ids ids reduced.0 m over.0 at)
+      (same_monomials w t.ids ids reduced.0 m over.0 at)
       ∙ ap (λ k. chosen (same_ids t.ids ids) t.coefficient + k) (sum_is_coefficient w ts ids reduced.3 over.1 m at)
 
   -- the coefficient of ids of atoms is that of their monomial in the polynomial
@@ -190,7 +193,8 @@ module _ (nodes : List Node) (made : IsWellMade nodes) (different : AreApart nod
   one_list_of_terms w ss ts cs ct os ot e =
       one_canonical w ss ts cs.in_order cs.reduced ct.in_order ct.reduced same
     where
-      of_atoms : (ids : List ExprId) → IsMonomial ids → AreAtoms nodes w ids → coefficient_of ss ids ≡ coefficient_of ts ids
+      of_atoms : (ids : List ExprId) → IsMonomial ids → AreAtoms nodes w ids
+          → coefficient_of ss ids ≡ coefficient_of ts ids
       of_atoms ids m at =
           coefficient_is w ss ids cs os m at
           ∙ ap (λ p. coefficient_in (monomial_of (meanings nodes) ids) p % 2 ^ w) e

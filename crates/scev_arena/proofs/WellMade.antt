@@ -62,7 +62,7 @@ module _ (nodes more : List Node) where
   monomial_stays w [] h = refl
   monomial_stays w (id ∷ ids) h =
       ap (λ a. with_factor a (monomial_of (meanings (nodes ++ more)) ids))
-        (atom_stays nodes more id (atom_within nodes w id h.0))
+      (atom_stays nodes more id (atom_within nodes w id h.0))
       ∙ ap (with_factor (atom_of nodes id)) (monomial_stays w ids h.1)
 
   polynomial_stays : (w : ℕ) (ts : List Term) → AreOverAtoms nodes w ts
@@ -74,11 +74,13 @@ module _ (nodes more : List Node) where
 
   pub stands_later : (n : Node) → MayStand nodes n → MayStand (nodes ++ more) n
   stands_later (node.Tree width terms) may = (may.0, over_atoms_later width.bits terms may.1)
-  stands_later (node.Atom kind width parts) may =
-      (trees_later parts may.0,
-      subst (λ trees. HasParts kind width.bits (parts_of trees)) (sym (parts_stay parts may.0)) may.1)
+  stands_later (node.Atom kind width parts) may = (
+    trees_later parts may.0,
+    subst (λ trees. HasParts kind width.bits (parts_of trees)) (sym (parts_stay parts may.0)) may.1,
+  )
 
-  pub node_stays : (n : Node) → MayStand nodes n → node_meant (meanings (nodes ++ more)) n ≡ node_meant (meanings nodes) n
+  pub node_stays : (n : Node) → MayStand nodes n
+      → node_meant (meanings (nodes ++ more)) n ≡ node_meant (meanings nodes) n
   node_stays (node.Tree width terms) may =
       ap (λ p. TreeOf (polynomial width.bits p)) (polynomial_stays width.bits terms may.1)
   node_stays (node.Atom kind width parts) may =

@@ -64,7 +64,7 @@ ids_decide xs ys = slice_eq-Decides id_decides xs ys (pointwise same_id xs ys) r
 term_decides : (s t : Term) → Decides (same_term s t) (s ≡ t)
 term_decides s t =
     let both = Decides-and (pointwise same_id s.ids t.ids) (s.coefficient == t.coefficient) (ids_decide s.ids t.ids)
-      (Decides-eqb s.coefficient t.coefficient) in
+    (Decides-eqb s.coefficient t.coefficient) in
     (λ h. one_term s t (both.0 h).0 (both.0 h).1, λ e. both.1 (ap (λ u. u.ids) e, ap (λ u. u.coefficient) e))
 
 terms_decide : (ss ts : List Term) → Decides (pointwise same_term ss ts) (ss ≡ ts)
@@ -136,7 +136,7 @@ same_node_itself (node.Tree w ts) =
     and_from (w.bits == w.bits) (pointwise same_term ts ts) ((width_decides w w).1 refl) ((terms_decide ts ts).1 refl)
 same_node_itself (node.Atom k w ids) =
     and_from (same_kind k k) ((w.bits == w.bits) && pointwise same_id ids ids) (same_kind_itself k)
-      (and_from (w.bits == w.bits) (pointwise same_id ids ids) ((width_decides w w).1 refl) ((ids_decide ids ids).1 refl))
+    (and_from (w.bits == w.bits) (pointwise same_id ids ids) ((width_decides w w).1 refl) ((ids_decide ids ids).1 refl))
 
 -- The test tells exactly where nodes are one.
 pub same_node_decides : (m n : Node) → Decides (same_node m n) (m ≡ n)
