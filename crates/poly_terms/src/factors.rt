@@ -1,11 +1,17 @@
 //! The factors of a monomial.
 
-ghost use Rattle.std.specs.Prelude.{◌≡◌, ◌≤◌, length, IsOk, IfOk};
+ghost use Rattle.std.specs.Prelude.{◌≡◌, ◌≤◌, length, nat_eq, IsOk, IfOk};
+ghost use Rattle.std.specs.Cmp.{partial_equiv_from_equiv, on_equiv, nat_eq_equiv, unsigned_Decides};
+ghost use Rattle.std.specs.Cmp.Lexicographic.{pointwise, lists_equiv};
+ghost use Rattle.std.specs.Hash as fed;
+ghost use Rattle.std.specs.Hash.{on_Alike, items_Alike, same_Alike};
+ghost use Rattle.std.specs.Ordering.{on};
 ghost use Rattle.poly_terms.specs.declared.factors.TheConstants.{INLINE};
 
 use scev_base::ExprId;
 use smallvec::SmallVec;
 use std::alloc::{AllocError, Global};
+use std::hash::{Hash, Hasher};
 use std::marker::Model;
 
 /// How many ids lie in the value itself: most monomials have one or two factors, so most need no allocation.
@@ -57,5 +63,29 @@ impl Factors {
         ensures { result ≡ length self.now }
     {
         self.ids.len()
+    }
+}
+
+impl PartialEq for Factors {
+    ghost eq = { pointwise (on (λ id. id.0) nat_eq) };
+
+    ghost laws = { partial_equiv_from_equiv (lists_equiv (on_equiv (λ id. id.0) nat_eq_equiv)) };
+
+    fn eq(&self, other: &Factors) -> bool {
+        self.as_slice() == other.as_slice()
+    }
+}
+
+impl Eq for Factors {
+    ghost laws = { lists_equiv (on_equiv (λ id. id.0) nat_eq_equiv) };
+}
+
+impl Hash for Factors {
+    ghost hash_input = { fed.slice (λ id. fed.u64 id.0) };
+
+    ghost respects_eq = { (items_Alike (on_Alike (λ id. id.0) (same_Alike fed.u64 unsigned_Decides))).fed };
+
+    fn hash<H: Hasher>(&self, state: &mut H) {
+        self.as_slice().hash(state);
     }
 }

@@ -7,7 +7,7 @@ use scev_base::ExprId;
 use std::alloc::{AllocError, Global};
 
 /// A monomial and its coefficient.
-#[derive(Debug, Drop)]
+#[derive(Debug, Drop, PartialEq, Eq, Hash)]
 pub struct Term {
     /// The ids of the monomial's factors in ascending order, each as often as it is a factor. None is the
     /// constant 1.

@@ -4,4 +4,7 @@
 
 mod kind;
 
+// What holds of every tree.
+pub mod laws;
+
 pub use kind::Kind;
