@@ -1,5 +1,5 @@
 //! Worked examples of the arithmetic as tables of tests: residues and nests of loops, binomials, congruences,
-//! recurrences, and polynomials.
+//! recurrences, polynomials, and places of expressions.
 #![tactic(auto)]
 
 // Numbers modulo 2^w.
@@ -19,3 +19,7 @@ mod nests;
 mod plans;
 #[cfg(test)]
 mod polynomials;
+
+// Where expressions are kept.
+#[cfg(test)]
+mod places;

@@ -1,0 +1,5 @@
+pub mod Nodes
+pub mod NodeLaws
+pub mod Meaning
+pub mod Standing
+pub mod Limits

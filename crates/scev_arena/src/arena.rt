@@ -1,0 +1,83 @@
+//! An arena of nodes.
+
+ghost use Rattle.std.specs.Prelude.{◌≡◌, ◌<◌, [], length, option_map, slice_get, Some, IfOk, OnErr};
+ghost use Rattle.scev_arena.specs.Nodes.{node_bits};
+ghost use Rattle.scev_arena.specs.Standing.{MayStand, IsArena, IsGrown};
+
+use crate::node::Node;
+use indexmap::IndexSet;
+use scev_base::{ExprId, Width};
+use std::alloc::{AllocError, Global};
+use std::marker::Model;
+
+/// Nodes, each once, which contracts see as their list. An `ExprId` is a place in it.
+///
+/// An arena only grows, so what a place holds stays.
+#[derive(Drop)]
+pub struct Arena {
+    nodes: IndexSet<Node>,
+}
+
+impl Model for Arena {
+    ghost use Rattle.std.specs.Prelude.{List};
+    ghost use Rattle.scev_arena.specs.declared.node.Node.{Node};
+    ghost use Rattle.scev_arena.specs.Standing.{IsArena};
+
+    ghost Value = { List Node };
+
+    ghost view = { λ a. a.nodes.keys };
+
+    ghost invariant = { λ a. IsArena a.nodes.keys };
+}
+
+impl Arena {
+    /// No nodes.
+    pub fn new(alloc: Global) -> Arena
+        ensures { result ≡ [] }
+    {
+        Arena {
+            nodes: IndexSet::new(alloc),
+        }
+    }
+
+    /// The place of a node: that of an equal one, or else the new last place.
+    ///
+    /// `Err` comes only where no memory is found for a new node, and the arena is then as before.
+    ///
+    /// Time of one hash of the node.
+    pub fn intern(&mut self, n: Node) -> Result<ExprId, AllocError>
+        requires { MayStand self.old n }
+        ensures place { IfOk result (λ id. slice_get self.new id.0 ≡ Some n) }
+        ensures grows { IfOk result (λ id. IsGrown self.old n self.new id) }
+        ensures err { OnErr result (self.new ≡ self.old) }
+        ensures arena { IsArena self.new }
+    {
+        let (place, _) = self.nodes.insert_full(n)?;
+        Ok(ExprId(place as u64))
+    }
+
+    /// The node at a place.
+    pub fn node(&self, id: ExprId) -> &Node
+        requires { id.0 < length self.now }
+        ensures node { slice_get self.now id.0 ≡ Some result.now }
+        ensures arena { IsArena self.now }
+    {
+        &self.nodes.as_slice()[id.0 as usize]
+    }
+
+    /// The width of the tree or the atom at a place.
+    pub fn width(&self, id: ExprId) -> Width
+        requires { id.0 < length self.now }
+        ensures { option_map node_bits (slice_get self.now id.0) ≡ Some result.bits }
+    {
+        self.node(id).width()
+    }
+
+    /// The number of nodes, which is the next place.
+    pub fn len(&self) -> usize
+        ensures len { result ≡ length self.now }
+        ensures arena { IsArena self.now }
+    {
+        self.nodes.len()
+    }
+}
