@@ -1,0 +1,9 @@
+pub mod Outcome
+pub mod Polynomials
+pub mod Gather
+pub mod Sums
+pub mod Atoms
+pub mod Casts
+pub mod Quotients
+pub mod Minima
+pub mod Turns
