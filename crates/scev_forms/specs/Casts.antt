@@ -17,13 +17,13 @@ of_extended kind w tree narrowed = if nat_lt (width_of tree) w then made kind w 
 
 -- The lowest w bits go into coefficients, factors, and the parts of recurrences. Each monomial whose coefficient isn't 0
 -- then is formed from its coefficient, by one factor after another, and added to the sum so far.
-mutual
-  unfoldable pub truncated : List (Option ℕ) → ℕ → Tree → Outcome Tree
+unfoldable mutual
+  pub truncated : List (Option ℕ) → ℕ → Tree → Outcome Tree
   truncated parents w (polynomial v terms) =
       if v == w then Done (polynomial v terms) else truncated_terms parents w terms (constant w 0)
 
   -- further terms, added to the sum so far
-  unfoldable pub truncated_terms : List (Option ℕ) → ℕ → Terms → Tree → Outcome Tree
+  pub truncated_terms : List (Option ℕ) → ℕ → Terms → Tree → Outcome Tree
   truncated_terms parents w no_terms sum = Done sum
   truncated_terms parents w (term factors n terms) sum =
       if n % 2 ^ w == 0 then truncated_terms parents w terms sum
@@ -31,14 +31,14 @@ mutual
       next (tree_sum parents w sum product) (λ more. truncated_terms parents w terms more))
 
   -- the product so far, by further factors
-  unfoldable pub truncated_factors : List (Option ℕ) → ℕ → Factors → Tree → Outcome Tree
+  pub truncated_factors : List (Option ℕ) → ℕ → Factors → Tree → Outcome Tree
   truncated_factors parents w no_factors product = Done product
   truncated_factors parents w (factor a factors) product =
       next (truncated_atom parents w a) (λ tree.
       next (tree_product parents w product tree) (λ more. truncated_factors parents w factors more))
 
   -- of a truncation, of an extension, of a recurrence, and of all else
-  unfoldable pub truncated_atom : List (Option ℕ) → ℕ → Atom → Outcome Tree
+  pub truncated_atom : List (Option ℕ) → ℕ → Atom → Outcome Tree
   truncated_atom parents w (atom kind.Trunc v parts) = made kind.Trunc w (trees_of parts)
   truncated_atom parents w (atom kind.Zext v (part tree no_parts)) =
       of_extended kind.Zext w tree (truncated parents w tree)
@@ -48,7 +48,7 @@ mutual
       next (truncated_parts parents w parts) (λ trees. recurrence_of w loop.0 trees)
   truncated_atom parents w (atom k v parts) = made kind.Trunc w (of_atom v (atom k v parts) ∷ [])
 
-  unfoldable pub truncated_parts : List (Option ℕ) → ℕ → Parts → Outcome (List Tree)
+  pub truncated_parts : List (Option ℕ) → ℕ → Parts → Outcome (List Tree)
   truncated_parts parents w no_parts = Done []
   truncated_parts parents w (part tree parts) =
       next (truncated parents w tree) (λ first.

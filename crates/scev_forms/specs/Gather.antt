@@ -115,7 +115,7 @@ is_one_rec l _ = false
 
 abbrev pub is_zero : Tree → Bool
 is_zero (polynomial w no_terms) = true
-is_zero (polynomial w (term factors coefficient terms)) = false
+is_zero (polynomial w _) = false
 
 abbrev pub before_others : Tree → List Tree → List Tree
 before_others tree [] = if is_zero tree then [] else tree ∷ []

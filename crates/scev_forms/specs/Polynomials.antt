@@ -13,7 +13,7 @@ terms_sum w (term factors n terms) others = with_term w factors n (terms_sum w t
 
 -- the product with one monomial and its coefficient
 unfoldable pub terms_multiple : ℕ → Factors → ℕ → Terms → Terms
-terms_multiple w factors n no_terms = no_terms
+terms_multiple w _ n no_terms = no_terms
 terms_multiple w factors n (term others m terms) =
     with_term w (joined_factors factors others) (n * m) (terms_multiple w factors n terms)
 

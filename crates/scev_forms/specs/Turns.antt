@@ -102,29 +102,29 @@ atom_by_parts parents l count w k parts trees = next trees (reformed parents w k
 
 -- Each recurrence of the loop becomes its value at the count, and the tree is formed anew: each monomial from its
 -- coefficient, by one factor after another, and added to the sum so far.
-mutual
-  unfoldable pub tree_at_turn : List (Option ℕ) → ℕ → Tree → Tree → Outcome Tree
+unfoldable mutual
+  pub tree_at_turn : List (Option ℕ) → ℕ → Tree → Tree → Outcome Tree
   tree_at_turn parents l count (polynomial w terms) = terms_at_turn parents l count w terms (constant w 0)
 
   -- further terms, added to the sum so far
-  unfoldable pub terms_at_turn : List (Option ℕ) → ℕ → Tree → ℕ → Terms → Tree → Outcome Tree
+  pub terms_at_turn : List (Option ℕ) → ℕ → Tree → ℕ → Terms → Tree → Outcome Tree
   terms_at_turn parents l count w no_terms sum = Done sum
   terms_at_turn parents l count w (term factors n terms) sum =
       next (factors_at_turn parents l count w factors (constant w n)) (λ product.
       next (tree_sum parents w sum product) (λ more. terms_at_turn parents l count w terms more))
 
   -- the product so far, by further factors
-  unfoldable pub factors_at_turn : List (Option ℕ) → ℕ → Tree → ℕ → Factors → Tree → Outcome Tree
+  pub factors_at_turn : List (Option ℕ) → ℕ → Tree → ℕ → Factors → Tree → Outcome Tree
   factors_at_turn parents l count w no_factors product = Done product
   factors_at_turn parents l count w (factor a factors) product =
       next (atom_at_turn parents l count a) (λ tree.
       next (tree_product parents w product tree) (λ more. factors_at_turn parents l count w factors more))
 
-  unfoldable pub atom_at_turn : List (Option ℕ) → ℕ → Tree → Atom → Outcome Tree
+  pub atom_at_turn : List (Option ℕ) → ℕ → Tree → Atom → Outcome Tree
   atom_at_turn parents l count (atom k w parts) =
       atom_by_parts parents l count w k parts (parts_at_turn parents l count parts)
 
-  unfoldable pub parts_at_turn : List (Option ℕ) → ℕ → Tree → Parts → Outcome (List Tree)
+  pub parts_at_turn : List (Option ℕ) → ℕ → Tree → Parts → Outcome (List Tree)
   parts_at_turn parents l count no_parts = Done []
   parts_at_turn parents l count (part tree parts) =
       next (tree_at_turn parents l count tree) (λ first.
