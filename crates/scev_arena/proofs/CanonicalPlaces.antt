@@ -1,15 +1,13 @@
 -- The trees and the atoms of an arena are canonical.
-use Rattle.std.proofs.Common.{◌≡◌, ℕ, ◌<◌, ◌≤◌, ◌⊎◌, inl, inr, List, [], ◌∷◌, ◌++◌, length, map, Option, Some, None, slice_get, refl, sym, ap, ◌∙◌, subst, arith}
+use Rattle.std.proofs.Common.{◌≡◌, ℕ, ◌<◌, ◌≤◌, inl, inr, List, [], ◌∷◌, ◌++◌, length, map, Some, None, slice_get, sym, ap, ◌∙◌, subst, arith}
 use Rattle.std.proofs.lemmas.Bool.{cases_order}
 use Rattle.scev_base.specs.declared.ids.ExprId.{ExprId}
 use Rattle.scev_tree.specs.Tree.{parts_of}
-use Rattle.scev_tree.specs.Canonical.{Ascend, AreCanonicalFactors, AreCanonicalTerms, AreCanonicalParts, HasParts, IsCanonical, IsCanonicalAtom}
-use Rattle.poly_terms.specs.declared.term.Term.{Term}
+use Rattle.scev_tree.specs.Canonical.{AreCanonicalParts, HasParts, IsCanonical, IsCanonicalAtom}
 use Rattle.scev_arena.specs.declared.node.Node.{Node}
 use Rattle.scev_arena.specs.declared.node.Node.TheVariants as node
-use Rattle.scev_arena.specs.Meaning.{node_meant, meanings, tree_in, atom_in, tree_of, atom_of, monomial_of, polynomial_of}
-use Rattle.scev_arena.specs.Standing.{HoldsTree, HoldsAtom, IsTreeAt, IsAtomAt, AreTrees, AreAtoms, AreOverAtoms, MayStand, IsArena}
-use Rattle.scev_arena.proofs.FromTrees.{ascend_with_factor, canonical_with_factor, canonical_with_term}
+use Rattle.scev_arena.specs.Meaning.{node_meant, meanings, tree_in, atom_in, tree_of, atom_of}
+use Rattle.scev_arena.specs.Standing.{HoldsTree, HoldsAtom, IsTreeAt, IsAtomAt, AreTrees, MayStand, IsArena}
 use Rattle.scev_arena.proofs.Places.{place_before, place_behind, place_past}
 use Rattle.scev_arena.proofs.Inductions.{last_stands, by_nodes}
 use Rattle.scev_arena.proofs.PlacesStay.{tree_stays, atom_stays, last_holds, length_behind}
@@ -20,26 +18,6 @@ pub record IsSound (nodes : List Node) : Type 0 where
   pub atoms : (w : ℕ) (id : ExprId) → IsAtomAt nodes w id → IsCanonicalAtom w (atom_of nodes id)
 
 module _ (nodes : List Node) (sound : IsSound nodes) where
-  -- monomials over canonical atoms
-  monomial_sound : (w : ℕ) (ids : List ExprId) → AreAtoms nodes w ids
-      → Ascend (monomial_of (meanings nodes) ids) × AreCanonicalFactors w (monomial_of (meanings nodes) ids)
-  monomial_sound w [] h = (tt, tt)
-  monomial_sound w (id ∷ ids) h =
-      let rest = monomial_sound w ids h.1 in
-      let factors = monomial_of (meanings nodes) ids in (
-        ascend_with_factor (atom_of nodes id) factors rest.0,
-        canonical_with_factor w (atom_of nodes id) factors (sound.atoms w id h.0) rest.1,
-      )
-
-  -- polynomials over canonical atoms
-  polynomial_sound : (w : ℕ) (ts : List Term) → AreOverAtoms nodes w ts
-      → AreCanonicalTerms w (polynomial_of (meanings nodes) w ts)
-  polynomial_sound w [] h = tt
-  polynomial_sound w (t ∷ ts) h =
-      let first = monomial_sound w t.ids h.0 in
-      canonical_with_term w (monomial_of (meanings nodes) t.ids) t.coefficient (polynomial_of (meanings nodes) w ts)
-      first.0 first.1 (polynomial_sound w ts h.1)
-
   -- canonical parts
   parts_sound : (ids : List ExprId) → AreTrees nodes ids → AreCanonicalParts (parts_of (map (tree_of nodes) ids))
   parts_sound [] h = tt
@@ -48,7 +26,7 @@ module _ (nodes : List Node) (sound : IsSound nodes) where
   -- a tree that may stand here
   tree_sound : (n : Node) → MayStand nodes n → HoldsTree (Some n)
       → IsCanonical (tree_in (Some (node_meant (meanings nodes) n)))
-  tree_sound (node.Tree width terms) may h = polynomial_sound width.bits terms may.1
+  tree_sound (node.Tree width terms) may h = may.0
   tree_sound (node.Atom kind width parts) may h = absurd h
 
   -- an atom that may stand here

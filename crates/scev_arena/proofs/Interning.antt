@@ -1,7 +1,7 @@
 -- A node that is interned stands at its place, and an arena stays one.
-use Rattle.std.proofs.Common.{◌≡◌, ℕ, ◌<◌, ◌≤◌, ◌⊎◌, inl, inr, Bool, true, false, if◌then◌else◌, List, [], ◌∷◌, ◌++◌, length, take, Option, Some, None, slice_get, refl, sym, ap, ◌∙◌, subst, arith}
+use Rattle.std.proofs.Common.{◌≡◌, ℕ, ◌<◌, ◌≤◌, ◌⊎◌, inl, inr, Bool, true, false, if◌then◌else◌, List, [], ◌∷◌, ◌++◌, length, take, Some, slice_get, refl, sym, ap, ◌∙◌, subst, arith}
 use Rattle.std.specs.List.{list_any, Contains}
-use Rattle.std.proofs.lemmas.Bool.{cases_Bool, false≢true}
+use Rattle.std.proofs.lemmas.Bool.{false≢true}
 use Rattle.std.proofs.lemmas.Map.Keys.{any_passes_from_place}
 use Rattle.std.proofs.lemmas.Option.{slice_get-get_or}
 use Rattle.scev_base.specs.declared.ids.ExprId.{ExprId}
@@ -9,7 +9,7 @@ use Rattle.scev_arena.specs.declared.node.Node.{Node}
 use Rattle.scev_arena.specs.Nodes.{same_node}
 use Rattle.scev_arena.specs.Standing.{MayStand, IsArena, IsGrown}
 use Rattle.scev_arena.specs.NodeLaws.{same_node_decides}
-use Rattle.scev_arena.proofs.Places.{place_within, place_of_more, take_front, take_before}
+use Rattle.scev_arena.proofs.Places.{place_of_more, take_front, take_before}
 
 -- the nodes with one that is new
 abbrev pub with_node : List Node → Node → List Node

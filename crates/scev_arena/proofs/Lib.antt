@@ -1,10 +1,7 @@
-pub mod FromTrees
 pub mod Places
 pub mod Inductions
 pub mod PlacesStay
 pub mod CanonicalPlaces
 pub mod WellMade
-pub mod OneMonomial
-pub mod OnePolynomial
 pub mod OnePlace
 pub mod Interning

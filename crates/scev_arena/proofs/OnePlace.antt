@@ -1,22 +1,96 @@
 -- Two places of an arena that hold one thing are one.
-use Rattle.std.proofs.Common.{◌≡◌, ℕ, ◌<◌, ◌⊎◌, inl, inr, List, [], ◌∷◌, ◌++◌, length, map, Option, Some, None, slice_get, refl, sym, ap, ◌∙◌, subst, arith}
+use Rattle.std.proofs.Common.{◌≡◌, ℕ, ◌<◌, inl, inr, List, [], ◌∷◌, ◌++◌, length, map, Some, slice_get, refl, sym, ap, ◌∙◌, subst, arith}
 use Rattle.scev_base.specs.declared.ids.ExprId.{ExprId}
-use Rattle.scev_tree.specs.Tree.{polynomial, atom, part, parts_of}
+use Rattle.scev_tree.specs.Tree.{parts_of}
 use Rattle.poly_terms.specs.declared.term.Term.{Term}
-use Rattle.poly_terms.specs.Terms.{IsCanonical}
 use Rattle.scev_arena.specs.declared.node.Node.{Node}
 use Rattle.scev_arena.specs.declared.node.Node.TheVariants as node
-use Rattle.scev_arena.specs.Meaning.{Meant, TreeOf, AtomOf, node_meant, meanings, tree_of, polynomial_of}
-use Rattle.scev_arena.specs.Standing.{AreTrees, AreOverAtoms, MayStand, IsArena}
-use Rattle.scev_arena.specs.NodeLaws.{one_id, one_width}
-use Rattle.scev_arena.proofs.Places.{at_place, place_within, place_of_more}
+use Rattle.scev_arena.specs.Meaning.{Meant, TreeOf, AtomOf, node_meant, meanings, tree_in, atom_in, tree_of, atom_of}
+use Rattle.scev_arena.specs.Meaning.{factors_at, terms_at}
+use Rattle.scev_arena.specs.Standing.{HoldsTree, HoldsAtom, IsTreeAt, IsAtomAt, AreTrees, AreAtoms, AreOverAtoms}
+use Rattle.scev_arena.specs.Standing.{MayStand, IsArena}
+use Rattle.scev_arena.specs.NodeLaws.{one_id, one_width, one_term}
+use Rattle.scev_arena.proofs.Places.{at_place, place_of_more}
 use Rattle.scev_arena.proofs.Inductions.{front_is_arena, last_stands, last_is_new, by_nodes}
 use Rattle.scev_arena.proofs.PlacesStay.{one_more, as_many}
-use Rattle.scev_arena.proofs.WellMade.{IsWellMade, well_made}
-use Rattle.scev_arena.proofs.OneMonomial.{AreApart, one_tree_place}
-use Rattle.scev_arena.proofs.OnePolynomial.{one_list_of_terms}
+use Rattle.scev_arena.proofs.WellMade.{IsWellMade, well_made, tree_within, atom_within}
+
+-- two places that hold one thing are one
+pub record AreApart (nodes : List Node) : Type 0 where
+  pub apart : (i j : ℕ) (held : Meant)
+      → slice_get (meanings nodes) i ≡ Some held
+      → slice_get (meanings nodes) j ≡ Some held
+      → i ≡ j
 
 module _ (nodes : List Node) (made : IsWellMade nodes) (different : AreApart nodes) where
+  -- a tree's place holds what its node means
+  tree_held : (id : ExprId) → IsTreeAt nodes id → slice_get (meanings nodes) id.0 ≡ Some (TreeOf (tree_of nodes id))
+  tree_held id h =
+      let there = at_place nodes id.0 (tree_within nodes id h) in
+      by_node there.0 there.1 (subst HoldsTree there.1 h)
+    where
+      by_node : (n : Node) → slice_get nodes id.0 ≡ Some n → HoldsTree (Some n)
+          → slice_get (meanings nodes) id.0 ≡ Some (TreeOf (tree_of nodes id))
+      by_node (node.Tree width terms) e h =
+          let held = made.holds id.0 (node.Tree width terms) e in
+          held ∙ ap (λ o. Some (TreeOf (tree_in o))) (sym held)
+      by_node (node.Atom kind width parts) e h = absurd h
+
+  atom_held : (w : ℕ) (id : ExprId) → IsAtomAt nodes w id
+      → slice_get (meanings nodes) id.0 ≡ Some (AtomOf (atom_of nodes id))
+  atom_held w id h =
+      let there = at_place nodes id.0 (atom_within nodes w id h) in
+      by_node there.0 there.1 (subst (HoldsAtom w) there.1 h)
+    where
+      by_node : (n : Node) → slice_get nodes id.0 ≡ Some n → HoldsAtom w (Some n)
+          → slice_get (meanings nodes) id.0 ≡ Some (AtomOf (atom_of nodes id))
+      by_node (node.Tree width terms) e h = absurd h
+      by_node (node.Atom kind width parts) e h =
+          let held = made.holds id.0 (node.Atom kind width parts) e in
+          held ∙ ap (λ o. Some (AtomOf (atom_in o))) (sym held)
+
+  -- places of one tree, or of one atom, are one
+  pub one_tree_place : (x y : ExprId) → IsTreeAt nodes x → IsTreeAt nodes y → tree_of nodes x ≡ tree_of nodes y
+      → x.0 ≡ y.0
+  one_tree_place x y hx hy e =
+      different.apart x.0 y.0 (TreeOf (tree_of nodes x)) (tree_held x hx)
+      (tree_held y hy ∙ ap (λ tree. Some (TreeOf tree)) (sym e))
+
+  pub one_atom_place : (v w : ℕ) (x y : ExprId) → IsAtomAt nodes v x → IsAtomAt nodes w y
+      → atom_of nodes x ≡ atom_of nodes y
+      → x.0 ≡ y.0
+  one_atom_place v w x y hx hy e =
+      different.apart x.0 y.0 (AtomOf (atom_of nodes x)) (atom_held v x hx)
+      (atom_held w y hy ∙ ap (λ a. Some (AtomOf a)) (sym e))
+
+  -- places of the same factors are one list
+  one_list_of_factors : (w : ℕ) (xs ys : List ExprId) → AreAtoms nodes w xs → AreAtoms nodes w ys
+      → factors_at (meanings nodes) xs ≡ factors_at (meanings nodes) ys
+      → xs ≡ ys
+  one_list_of_factors w [] [] hx hy e = refl
+  one_list_of_factors w [] (y ∷ ys) hx hy e = absurd (cc e)
+  one_list_of_factors w (x ∷ xs) [] hx hy e = absurd (cc e)
+  one_list_of_factors w (x ∷ xs) (y ∷ ys) hx hy e =
+      let first : atom_of nodes x ≡ atom_of nodes y = cc e in
+      let others : factors_at (meanings nodes) xs ≡ factors_at (meanings nodes) ys = cc e in
+      ap (λ id. id ∷ xs) (one_id x y (one_atom_place w w x y hx.0 hy.0 first))
+      ∙ ap (λ ids. y ∷ ids) (one_list_of_factors w xs ys hx.1 hy.1 others)
+
+  -- terms of the same monomials and coefficients are one list
+  one_list_of_terms : (w : ℕ) (ss ts : List Term) → AreOverAtoms nodes w ss → AreOverAtoms nodes w ts
+      → terms_at (meanings nodes) ss ≡ terms_at (meanings nodes) ts
+      → ss ≡ ts
+  one_list_of_terms w [] [] hs ht e = refl
+  one_list_of_terms w [] (t ∷ ts) hs ht e = absurd (cc e)
+  one_list_of_terms w (s ∷ ss) [] hs ht e = absurd (cc e)
+  one_list_of_terms w (s ∷ ss) (t ∷ ts) hs ht e =
+      let monomials : factors_at (meanings nodes) s.ids ≡ factors_at (meanings nodes) t.ids = cc e in
+      let coefficients : s.coefficient ≡ t.coefficient = cc e in
+      let others : terms_at (meanings nodes) ss ≡ terms_at (meanings nodes) ts = cc e in
+      let ids = one_list_of_factors w s.ids t.ids hs.0 ht.0 monomials in
+      ap (λ u. u ∷ ss) (one_term s t ids coefficients)
+      ∙ ap (λ us. t ∷ us) (one_list_of_terms w ss ts hs.1 ht.1 others)
+
   -- places of the same parts are one list
   one_list_of_parts : (xs ys : List ExprId) → AreTrees nodes xs → AreTrees nodes ys
       → parts_of (map (tree_of nodes) xs) ≡ parts_of (map (tree_of nodes) ys)
@@ -27,7 +101,7 @@ module _ (nodes : List Node) (made : IsWellMade nodes) (different : AreApart nod
   one_list_of_parts (x ∷ xs) (y ∷ ys) hx hy e =
       let first : tree_of nodes x ≡ tree_of nodes y = cc e in
       let others : parts_of (map (tree_of nodes) xs) ≡ parts_of (map (tree_of nodes) ys) = cc e in
-      ap (λ id. id ∷ xs) (one_id x y (one_tree_place nodes made different x y hx.0 hy.0 first))
+      ap (λ id. id ∷ xs) (one_id x y (one_tree_place x y hx.0 hy.0 first))
       ∙ ap (λ ids. y ∷ ids) (one_list_of_parts xs ys hx.1 hy.1 others)
 
   -- nodes that mean one thing are one
@@ -36,12 +110,10 @@ module _ (nodes : List Node) (made : IsWellMade nodes) (different : AreApart nod
       → m ≡ n
   one_node (node.Tree v ss) (node.Tree w ts) hm hn e =
       let bits : v.bits ≡ w.bits = cc e in
-      let terms : polynomial_of (meanings nodes) v.bits ss ≡ polynomial_of (meanings nodes) w.bits ts = cc e in
-      let here : polynomial_of (meanings nodes) w.bits ss ≡ polynomial_of (meanings nodes) w.bits ts =
-      ap (λ b. polynomial_of (meanings nodes) b ss) (sym bits) ∙ terms in
+      let terms : terms_at (meanings nodes) ss ≡ terms_at (meanings nodes) ts = cc e in
       ap (λ u. node.Tree u ss) (one_width v w bits)
-      ∙ ap (node.Tree w) (one_list_of_terms nodes made different w.bits ss ts
-      (subst (λ b. IsCanonical b ss) bits hm.0) hn.0 (subst (λ b. AreOverAtoms nodes b ss) bits hm.1) hn.1 here)
+      ∙ ap (node.Tree w) (one_list_of_terms w.bits ss ts
+      (subst (λ b. AreOverAtoms nodes b ss) bits hm.1) hn.1 terms)
   one_node (node.Atom k v xs) (node.Atom l w ys) hm hn e =
       let kinds : k ≡ l = cc e in
       let bits : v.bits ≡ w.bits = cc e in

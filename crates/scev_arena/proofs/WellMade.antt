@@ -1,13 +1,14 @@
 -- In an arena each node may stand among all, and its place holds what the node means among all.
-use Rattle.std.proofs.Common.{◌≡◌, ℕ, ◌<◌, ◌≤◌, ◌⊎◌, inl, inr, List, [], ◌∷◌, ◌++◌, length, map, Option, Some, None, slice_get, refl, sym, ap, ◌∙◌, subst, arith}
+use Rattle.std.proofs.Common.{◌≡◌, ℕ, ◌<◌, inl, inr, List, [], ◌∷◌, ◌++◌, length, map, Some, slice_get, refl, sym, ap, ◌∙◌, subst}
 use Rattle.std.proofs.lemmas.Bool.{cases_lt}
 use Rattle.scev_base.specs.declared.ids.ExprId.{ExprId}
-use Rattle.scev_tree.specs.Tree.{polynomial, atom, parts_of}
-use Rattle.scev_tree.specs.Canonical.{with_factor, with_term, HasParts}
+use Rattle.scev_tree.specs.Tree.{polynomial, term, factor, atom, parts_of}
+use Rattle.scev_tree.specs.Canonical.{HasParts, IsCanonical}
 use Rattle.poly_terms.specs.declared.term.Term.{Term}
 use Rattle.scev_arena.specs.declared.node.Node.{Node}
 use Rattle.scev_arena.specs.declared.node.Node.TheVariants as node
-use Rattle.scev_arena.specs.Meaning.{Meant, TreeOf, AtomOf, node_meant, meanings, tree_of, atom_of, monomial_of, polynomial_of}
+use Rattle.scev_arena.specs.Meaning.{TreeOf, AtomOf, node_meant, meanings, tree_of, atom_of}
+use Rattle.scev_arena.specs.Meaning.{factors_at, terms_at}
 use Rattle.scev_arena.specs.Standing.{HoldsTree, HoldsAtom, IsTreeAt, IsAtomAt, AreTrees, AreAtoms, AreOverAtoms, MayStand, IsArena}
 use Rattle.scev_arena.proofs.Places.{place_before, place_past, place_of_more}
 use Rattle.scev_arena.proofs.Inductions.{last_stands, by_nodes}
@@ -31,49 +32,52 @@ atom_within nodes w id h =
 module _ (nodes more : List Node) where
   -- ---- what may stand may stand behind more
 
-  tree_later : (id : ExprId) → IsTreeAt nodes id → IsTreeAt (nodes ++ more) id
+  pub tree_later : (id : ExprId) → IsTreeAt nodes id → IsTreeAt (nodes ++ more) id
   tree_later id h = subst HoldsTree (sym (place_before nodes more id.0 (tree_within nodes id h))) h
 
-  atom_later : (w : ℕ) (id : ExprId) → IsAtomAt nodes w id → IsAtomAt (nodes ++ more) w id
+  pub atom_later : (w : ℕ) (id : ExprId) → IsAtomAt nodes w id → IsAtomAt (nodes ++ more) w id
   atom_later w id h = subst (HoldsAtom w) (sym (place_before nodes more id.0 (atom_within nodes w id h))) h
 
-  trees_later : (ids : List ExprId) → AreTrees nodes ids → AreTrees (nodes ++ more) ids
+  pub trees_later : (ids : List ExprId) → AreTrees nodes ids → AreTrees (nodes ++ more) ids
   trees_later [] h = tt
   trees_later (id ∷ ids) h = (tree_later id h.0, trees_later ids h.1)
 
-  atoms_later : (w : ℕ) (ids : List ExprId) → AreAtoms nodes w ids → AreAtoms (nodes ++ more) w ids
+  pub atoms_later : (w : ℕ) (ids : List ExprId) → AreAtoms nodes w ids → AreAtoms (nodes ++ more) w ids
   atoms_later w [] h = tt
   atoms_later w (id ∷ ids) h = (atom_later w id h.0, atoms_later w ids h.1)
 
-  over_atoms_later : (w : ℕ) (ts : List Term) → AreOverAtoms nodes w ts → AreOverAtoms (nodes ++ more) w ts
+  pub over_atoms_later : (w : ℕ) (ts : List Term) → AreOverAtoms nodes w ts → AreOverAtoms (nodes ++ more) w ts
   over_atoms_later w [] h = tt
   over_atoms_later w (t ∷ ts) h = (atoms_later w t.ids h.0, over_atoms_later w ts h.1)
 
   -- ---- and means the same
 
-  parts_stay : (ids : List ExprId) → AreTrees nodes ids → map (tree_of (nodes ++ more)) ids ≡ map (tree_of nodes) ids
+  pub parts_stay : (ids : List ExprId) → AreTrees nodes ids → map (tree_of (nodes ++ more)) ids ≡ map (tree_of nodes) ids
   parts_stay [] h = refl
   parts_stay (id ∷ ids) h =
       ap (λ tree. tree ∷ map (tree_of (nodes ++ more)) ids) (tree_stays nodes more id (tree_within nodes id h.0))
       ∙ ap (λ trees. tree_of nodes id ∷ trees) (parts_stay ids h.1)
 
-  monomial_stays : (w : ℕ) (ids : List ExprId) → AreAtoms nodes w ids
-      → monomial_of (meanings (nodes ++ more)) ids ≡ monomial_of (meanings nodes) ids
-  monomial_stays w [] h = refl
-  monomial_stays w (id ∷ ids) h =
-      ap (λ a. with_factor a (monomial_of (meanings (nodes ++ more)) ids))
+  pub factors_stay : (w : ℕ) (ids : List ExprId) → AreAtoms nodes w ids
+      → factors_at (meanings (nodes ++ more)) ids ≡ factors_at (meanings nodes) ids
+  factors_stay w [] h = refl
+  factors_stay w (id ∷ ids) h =
+      ap (λ a. factor a (factors_at (meanings (nodes ++ more)) ids))
       (atom_stays nodes more id (atom_within nodes w id h.0))
-      ∙ ap (with_factor (atom_of nodes id)) (monomial_stays w ids h.1)
+      ∙ ap (factor (atom_of nodes id)) (factors_stay w ids h.1)
 
-  polynomial_stays : (w : ℕ) (ts : List Term) → AreOverAtoms nodes w ts
-      → polynomial_of (meanings (nodes ++ more)) w ts ≡ polynomial_of (meanings nodes) w ts
-  polynomial_stays w [] h = refl
-  polynomial_stays w (t ∷ ts) h =
-      ap (λ f. with_term w f t.coefficient (polynomial_of (meanings (nodes ++ more)) w ts)) (monomial_stays w t.ids h.0)
-      ∙ ap (with_term w (monomial_of (meanings nodes) t.ids) t.coefficient) (polynomial_stays w ts h.1)
+  pub terms_stay : (w : ℕ) (ts : List Term) → AreOverAtoms nodes w ts
+      → terms_at (meanings (nodes ++ more)) ts ≡ terms_at (meanings nodes) ts
+  terms_stay w [] h = refl
+  terms_stay w (t ∷ ts) h =
+      ap (λ f. term f t.coefficient (terms_at (meanings (nodes ++ more)) ts)) (factors_stay w t.ids h.0)
+      ∙ ap (term (factors_at (meanings nodes) t.ids) t.coefficient) (terms_stay w ts h.1)
 
   pub stands_later : (n : Node) → MayStand nodes n → MayStand (nodes ++ more) n
-  stands_later (node.Tree width terms) may = (may.0, over_atoms_later width.bits terms may.1)
+  stands_later (node.Tree width terms) may = (
+    subst (λ ts. IsCanonical (polynomial width.bits ts)) (sym (terms_stay width.bits terms may.1)) may.0,
+    over_atoms_later width.bits terms may.1,
+  )
   stands_later (node.Atom kind width parts) may = (
     trees_later parts may.0,
     subst (λ trees. HasParts kind width.bits (parts_of trees)) (sym (parts_stay parts may.0)) may.1,
@@ -82,7 +86,7 @@ module _ (nodes more : List Node) where
   pub node_stays : (n : Node) → MayStand nodes n
       → node_meant (meanings (nodes ++ more)) n ≡ node_meant (meanings nodes) n
   node_stays (node.Tree width terms) may =
-      ap (λ p. TreeOf (polynomial width.bits p)) (polynomial_stays width.bits terms may.1)
+      ap (λ ts. TreeOf (polynomial width.bits ts)) (terms_stay width.bits terms may.1)
   node_stays (node.Atom kind width parts) may =
       ap (λ trees. AtomOf (atom kind width.bits (parts_of trees))) (parts_stay parts may.0)
 

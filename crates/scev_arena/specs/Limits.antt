@@ -1,6 +1,5 @@
 -- The first limit that a tree is above.
-use Rattle.std.specs.Prelude.{ℕ, suc, nat_lt, Bool, true, false, ◌||◌, if◌then◌else◌, Option, Some, None}
-
+use Rattle.std.specs.Prelude.{suc, nat_lt, Bool, false, ◌||◌, if◌then◌else◌, Option, Some, None}
 use Rattle.scev_base.specs.declared.limits.TheConstants.{MONOMIALS, FACTORS, DEGREE, DEPTH, NODES}
 use Rattle.scev_tree.specs.declared.kind.Kind.{Kind}
 use Rattle.scev_tree.specs.declared.kind.Kind.TheVariants as kind

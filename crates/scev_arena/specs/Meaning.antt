@@ -1,9 +1,9 @@
 -- What the places of an arena stand for, as plain trees.
-use Rattle.std.specs.Prelude.{ℕ, List, [], ◌∷◌, ◌++◌, map, fold, Option, Some, None, slice_get}
+use Rattle.std.specs.Prelude.{List, [], ◌∷◌, ◌++◌, map, fold, Option, Some, None, slice_get}
 use Rattle.scev_base.specs.declared.ids.ExprId.{ExprId}
 use Rattle.scev_tree.specs.declared.kind.Kind.TheVariants as kind
-use Rattle.scev_tree.specs.Tree.{Tree, Terms, Factors, Atom, polynomial, no_terms, no_factors, atom, no_parts, parts_of}
-use Rattle.scev_tree.specs.Canonical.{with_factor, with_term}
+use Rattle.scev_tree.specs.Tree.{Tree, Terms, Factors, Atom, polynomial, no_terms, term, no_factors, factor}
+use Rattle.scev_tree.specs.Tree.{atom, no_parts, parts_of}
 use Rattle.poly_terms.specs.declared.term.Term.{Term}
 use Rattle.scev_arena.specs.declared.node.Node.{Node}
 use Rattle.scev_arena.specs.declared.node.Node.TheVariants as node
@@ -31,19 +31,19 @@ tree_at meant id = tree_in (slice_get meant id.0)
 abbrev pub atom_at : List Meant → ExprId → Atom
 atom_at meant id = atom_in (slice_get meant id.0)
 
--- the monomial of the atoms at these places
-abbrev pub monomial_of : List Meant → List ExprId → Factors
-monomial_of meant [] = no_factors
-monomial_of meant (id ∷ ids) = with_factor (atom_at meant id) (monomial_of meant ids)
+-- the atoms at these places, as factors
+abbrev pub factors_at : List Meant → List ExprId → Factors
+factors_at meant [] = no_factors
+factors_at meant (id ∷ ids) = factor (atom_at meant id) (factors_at meant ids)
 
--- the polynomial of these terms
-abbrev pub polynomial_of : List Meant → ℕ → List Term → Terms
-polynomial_of meant w [] = no_terms
-polynomial_of meant w (t ∷ ts) = with_term w (monomial_of meant t.ids) t.coefficient (polynomial_of meant w ts)
+-- the monomials of these terms with their coefficients
+abbrev pub terms_at : List Meant → List Term → Terms
+terms_at meant [] = no_terms
+terms_at meant (t ∷ ts) = term (factors_at meant t.ids) t.coefficient (terms_at meant ts)
 
 -- what a node stands for, of what the places hold that it names
 abbrev pub node_meant : List Meant → Node → Meant
-node_meant meant (node.Tree width terms) = TreeOf (polynomial width.bits (polynomial_of meant width.bits terms))
+node_meant meant (node.Tree width terms) = TreeOf (polynomial width.bits (terms_at meant terms))
 node_meant meant (node.Atom kind width parts) = AtomOf (atom kind width.bits (parts_of (map (tree_at meant) parts)))
 
 -- the places with one more behind them

@@ -1,5 +1,5 @@
 -- Nodes are equal exactly where they are one.
-use Rattle.std.proofs.Common.{◌≡◌, ℕ, ◌≤◌, Bool, true, false, ◌&&◌, ◌==◌, List, Option, Some, None, refl, sym, ap, ◌∙◌, subst}
+use Rattle.std.proofs.Common.{◌≡◌, ℕ, ◌≤◌, true, ◌&&◌, ◌==◌, List, Option, Some, None, refl, sym, ap, ◌∙◌}
 use Rattle.std.proofs.Math.Bridge.{le_prop}
 use mathlib.Core.HLevel.{is_prop→PathP}
 use Rattle.std.proofs.lemmas.Bool.{false≢true, and_parts, and_from}
@@ -50,7 +50,7 @@ one_width v w e = λ i. record {
   at_most_64 = is_prop→PathP (λ j. e j ≤ 64) (λ j. le_prop) v.at_most_64 w.at_most_64 i;
 }
 
-one_term : (s t : Term) → s.ids ≡ t.ids → s.coefficient ≡ t.coefficient → s ≡ t
+pub one_term : (s t : Term) → s.ids ≡ t.ids → s.coefficient ≡ t.coefficient → s ≡ t
 one_term s t e f = λ i. record { ids = e i; coefficient = f i }
 
 -- ---- the tests of parts

@@ -1,13 +1,12 @@
 -- Which nodes may stand in an arena, and how it grows.
 use Rattle.std.specs.Prelude.{◌≡◌, ℕ, ◌⊎◌, List, [], ◌∷◌, ◌++◌, length, map, take, Option, Some, None, slice_get, Contains}
 use Rattle.scev_base.specs.declared.ids.ExprId.{ExprId}
-use Rattle.scev_tree.specs.Tree.{parts_of}
-use Rattle.scev_tree.specs.Canonical.{HasParts}
+use Rattle.scev_tree.specs.Tree.{polynomial, parts_of}
+use Rattle.scev_tree.specs.Canonical.{HasParts, IsCanonical}
 use Rattle.poly_terms.specs.declared.term.Term.{Term}
-use Rattle.poly_terms.specs.Terms.{IsCanonical}
 use Rattle.scev_arena.specs.declared.node.Node.{Node}
 use Rattle.scev_arena.specs.declared.node.Node.TheVariants as node
-use Rattle.scev_arena.specs.Meaning.{tree_of}
+use Rattle.scev_arena.specs.Meaning.{meanings, terms_at, tree_of}
 
 -- what stands there is a tree
 abbrev pub HoldsTree : Option Node → Type 0
@@ -40,10 +39,11 @@ abbrev pub AreOverAtoms : List Node → ℕ → List Term → Type 0
 AreOverAtoms nodes w [] = Unit {0}
 AreOverAtoms nodes w (t ∷ ts) = AreAtoms nodes w t.ids × AreOverAtoms nodes w ts
 
--- The node may stand behind these: a tree is canonical over atoms of its width, and an atom has the parts that its kind
--- asks for.
+-- The node may stand behind these: a tree is over atoms of its width and canonical, so that its monomials and their
+-- factors are in order, and an atom has the parts that its kind asks for.
 abbrev pub MayStand : List Node → Node → Type 0
-MayStand nodes (node.Tree width terms) = IsCanonical width.bits terms × AreOverAtoms nodes width.bits terms
+MayStand nodes (node.Tree width terms) =
+    IsCanonical (polynomial width.bits (terms_at (meanings nodes) terms)) × AreOverAtoms nodes width.bits terms
 MayStand nodes (node.Atom kind width parts) =
     AreTrees nodes parts × HasParts kind width.bits (parts_of (map (tree_of nodes) parts))
 

@@ -14,7 +14,8 @@ use std::hash::{Hash, Hasher};
 /// Two nodes are equal where they are of one sort and their parts are equal.
 #[derive(Debug, Drop)]
 pub enum Node {
-    /// A tree, as a polynomial: monomials with their coefficients. The ids of a monomial are places of atoms.
+    /// A tree, as a polynomial: monomials with their coefficients, both in the order of expressions. The ids of a
+    /// monomial are places of atoms.
     Tree {
         /// The width of the tree.
         width: Width,

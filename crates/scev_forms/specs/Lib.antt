@@ -1,3 +1,4 @@
+pub mod Trees
 pub mod Outcome
 pub mod Polynomials
 pub mod Gather

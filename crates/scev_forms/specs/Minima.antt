@@ -21,6 +21,14 @@ flattened k tree = flat_parts k tree (alone tree)
 
 -- ---- minima and maxima
 
+-- a kind of minimum or maximum, but of a sequential one
+abbrev pub IsMinimum : Kind → Type 0
+IsMinimum kind.Smax = Unit {0}
+IsMinimum kind.Umax = Unit {0}
+IsMinimum kind.Smin = Unit {0}
+IsMinimum kind.Umin = Unit {0}
+IsMinimum _ = ⊥
+
 -- of two numbers of w bits the one that the kind chooses
 abbrev pub chosen : Kind → ℕ → ℕ → ℕ → ℕ
 chosen kind.Smax w = signed_max w

@@ -1,4 +1,4 @@
-use Rattle.std.proofs.Common.{◌≡◌, sym, ◌∙◌, subst}
+use Rattle.std.proofs.Common.{sym, subst}
 use Rattle.scev_arena.specs.Standing.{MayStand, IsGrown}
 use Rattle.scev_arena.proofs.Interning.{stored_node, interned_arena, interned_grows}
 use Rattle.scev_arena.proofs.arena.Arena.intern.Goals as goal
