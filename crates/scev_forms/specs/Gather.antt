@@ -14,17 +14,17 @@ abbrev pub around : Option (Option ℕ) → Option ℕ
 around None = None
 around (Some parent) = parent
 
--- how many loops contain a loop, itself included, as far as so many steps lead
+-- how many loops are met on the way out, as far as so many steps lead
 abbrev pub steps_out : List (Option ℕ) → ℕ → Option ℕ → ℕ
 steps_out parents zero at = 0
 steps_out parents (suc most) None = 0
 steps_out parents (suc most) (Some l) = suc (steps_out parents most (around (slice_get parents l)))
 
--- how many loops contain a loop of the nest, itself included
+-- how many loops contain a loop, itself included; a loop that isn't in the nest is in no other
 abbrev pub depth_of : List (Option ℕ) → ℕ → ℕ
-depth_of parents l = steps_out parents (length parents) (Some l)
+depth_of parents l = suc (steps_out parents (length parents) (around (slice_get parents l)))
 
--- whether a loop is met on the way out of another, itself included, within so many steps
+-- whether a loop is met on the way out, within so many steps
 abbrev pub is_met : List (Option ℕ) → ℕ → ℕ → Option ℕ → Bool
 is_met parents outer zero at = false
 is_met parents outer (suc most) None = false
@@ -32,7 +32,8 @@ is_met parents outer (suc most) (Some l) = (l == outer) || is_met parents outer 
 
 -- whether the inner loop stands in the outer one, or is the same
 abbrev pub stands_in : List (Option ℕ) → ℕ → ℕ → Bool
-stands_in parents outer inner = is_met parents outer (length parents) (Some inner)
+stands_in parents outer inner =
+    (inner == outer) || is_met parents outer (length parents) (around (slice_get parents inner))
 
 -- whether an atom of its own changes while the loop runs: a recurrence of the loop or of one in it, or a register that is
 -- defined in it
