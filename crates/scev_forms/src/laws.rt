@@ -1,7 +1,9 @@
 //! Laws of the normal form. Each is a function that does nothing.
 
-ghost use Rattle.std.specs.Prelude.{◌≡◌, ℕ, ◌<◌, ◌≤◌, ◌%◌, ◌^◌, ◌⊎◌, List, [], ◌∷◌, map, Option, Some};
+ghost use Rattle.std.specs.Prelude.{◌≡◌, ℕ, ◌<◌, ◌≤◌, ◌==◌, ◌%◌, ◌^◌, ◌⊎◌, ◌↔◌, IsTrue};
+ghost use Rattle.std.specs.Prelude.{List, [], ◌∷◌, length, map, Option, Some};
 ghost use Rattle.scev_base.specs.Iterated.{iterated};
+ghost use Rattle.scev_base.specs.Nest.{Contains, HasDepth, IsNest};
 ghost use Rattle.scev_tree.specs.declared.kind.Kind.{Kind};
 ghost use Rattle.scev_tree.specs.declared.kind.Kind.TheVariants as kind;
 ghost use Rattle.scev_tree.specs.Tree.{Tree, width_of};
@@ -9,6 +11,7 @@ ghost use Rattle.scev_tree.specs.Canonical.{IsCanonical};
 ghost use Rattle.scev_tree.specs.Value.{sum, product, quotient, lifted, least_in_sequence, tree_value};
 ghost use Rattle.scev_forms.specs.Trees.{IsTreeOf, AreTreesOf};
 ghost use Rattle.scev_forms.specs.Outcome.{Done, tested};
+ghost use Rattle.scev_forms.specs.Gather.{stands_in, depth_of};
 ghost use Rattle.scev_forms.specs.Sums.{tree_sum, tree_product, recurrence_of};
 ghost use Rattle.scev_forms.specs.Casts.{truncated, extended, extended_number};
 ghost use Rattle.scev_forms.specs.Quotients.{tree_quotient};
@@ -109,4 +112,16 @@ pub fn minima_keep_the_value()
         → tree_sequence w first second ≡ Done out
         → least_in_sequence (tree_value held turns first ∷ tree_value held turns second ∷ []) ≡ Some n
         → tree_value held turns out ≡ Some n }
+{}
+
+/// In a nest of loops what is told of two of its loops is so, and the depth of each.
+pub fn loops_are_told()
+    ensures containing { (parents : List (Option ℕ)) (outer inner : ℕ)
+        → IsNest parents → outer < length parents → inner < length parents
+        → IsTrue (stands_in parents outer inner) ↔ Contains parents outer inner }
+    ensures depth { (parents : List (Option ℕ)) (l : ℕ)
+        → IsNest parents → l < length parents → HasDepth parents l (depth_of parents l) }
+    ensures outside { (parents : List (Option ℕ)) (outer inner : ℕ)
+        → IsNest parents → (length parents ≤ outer) ⊎ (length parents ≤ inner)
+        → stands_in parents outer inner ≡ (inner == outer) }
 {}

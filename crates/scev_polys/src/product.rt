@@ -1,0 +1,28 @@
+//! The product of two polynomials.
+
+ghost use Rattle.std.specs.Prelude.{◌≡◌, IfOk};
+ghost use Rattle.scev_arena.specs.Meaning.{meanings, terms_at};
+ghost use Rattle.scev_forms.specs.Polynomials.{terms_product};
+ghost use Rattle.scev_polys.specs.Polynomials.{IsPolynomial};
+
+use crate::sum::sum;
+use poly_terms::Term;
+use scev_arena::Arena;
+use scev_base::Width;
+use sqlite_items::Items;
+use std::alloc::{AllocError, Global};
+
+/// The product of two polynomials modulo 2 to the width: monomials are joined and their coefficients multiplied, those of
+/// one monomial are added, and those that become 0 go. It fails only where no memory is found.
+pub fn product(
+    alloc: Global,
+    arena: &Arena,
+    w: Width,
+    left: &[Term],
+    right: &[Term],
+) -> Result<Items<Term>, AllocError>
+    requires left { IsPolynomial arena.now w.bits left.now }
+    requires right { IsPolynomial arena.now w.bits right.now }
+    ensures product { IfOk result (λ terms. terms_at (meanings arena.now) terms
+        ≡ terms_product w.bits (terms_at (meanings arena.now) left.now) (terms_at (meanings arena.now) right.now)) }
+    ensures polynomial { IfOk result (λ terms. IsPolynomial arena.now w.bits terms) }

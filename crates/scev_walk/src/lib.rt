@@ -1,0 +1,13 @@
+//! Expressions of an arena, read: the order in which they stand, the loops of their recurrences, what changes while a
+//! loop runs, and which of them are numbers or one atom. Nothing here takes memory.
+#![tactic(auto)]
+
+mod atoms;
+mod loops;
+mod moves;
+mod order;
+
+pub use atoms::{alone, number_of};
+pub use loops::{deepest, stands_in};
+pub use moves::moves;
+pub use order::{compare, compare_monomials};
