@@ -5,3 +5,4 @@ pub mod CanonicalPlaces
 pub mod WellMade
 pub mod OnePlace
 pub mod Interning
+pub mod LimitsTold
