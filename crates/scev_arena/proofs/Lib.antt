@@ -8,4 +8,5 @@ pub mod NodesMeasured
 pub mod OnePlace
 pub mod Interning
 pub mod LimitsTold
+pub mod LimitsMeasured
 pub mod MeasuresKept

@@ -2,8 +2,11 @@
 
 ghost use Rattle.std.specs.Prelude.{◌≡◌, ◌<◌, [], length, option_map, slice_get, Some, IfOk, OnErr};
 ghost use Rattle.scev_arena.specs.Nodes.{node_bits};
-ghost use Rattle.scev_arena.specs.Standing.{MayStand, IsArena, IsGrown};
+ghost use Rattle.scev_arena.specs.Meaning.{tree_of};
+ghost use Rattle.scev_arena.specs.Standing.{MayStand, IsTreeAt, IsArena, IsGrown};
+ghost use Rattle.scev_arena.specs.Limits.{first_limit};
 
+use crate::limit::Limit;
 use crate::measure::{Measure, node_measure};
 use crate::node::Node;
 use indexmap::IndexMap;
@@ -76,6 +79,15 @@ impl Arena {
         ensures { option_map node_bits (slice_get self.now id.0) ≡ Some result.bits }
     {
         self.node(id).width()
+    }
+
+    /// The first limit that the tree at a place is above, or that a tree in it is above; none where it is within all
+    /// limits. Constant time.
+    pub fn limit(&self, id: ExprId) -> Option<Limit>
+        requires { IsTreeAt self.now id }
+        ensures { result ≡ first_limit (tree_of self.now id) }
+    {
+        self.nodes.values().as_slice()[id.0 as usize].limit()
     }
 
     /// The number of nodes, which is the next place.
