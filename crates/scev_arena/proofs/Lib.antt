@@ -10,3 +10,4 @@ pub mod Interning
 pub mod LimitsTold
 pub mod LimitsMeasured
 pub mod MeasuresKept
+pub mod Interned

@@ -67,11 +67,13 @@ module _ (entries : List (Node × Measure)) (arena : IsArena (keys_of entries))
       let same : Some e.1 ≡ Some (measure_in keys e.0) = sym value ∙ told in
       cc same
 
-  module _ (new : List (Node × Measure)) (n : Node) (may : MayStand (keys_of entries) n)
-      (e : new ≡ insert_entry same_node entries n (node_measure (values_of entries) n)) where
-    measured : node_measure (values_of entries) n ≡ measure_in (keys_of entries) n
+  module _ (new : List (Node × Measure)) (n : Node) (m : Measure) (may : MayStand (keys_of entries) n)
+      (told : m ≡ node_measure (values_of entries) n) (e : new ≡ insert_entry same_node entries n m) where
+    measured : m ≡ measure_in (keys_of entries) n
     measured =
-        ap (λ l. node_measure l n) kept ∙ node_measured (keys_of entries) (well_made (keys_of entries) arena) n may
+        told
+        ∙ ap (λ l. node_measure l n) kept
+        ∙ node_measured (keys_of entries) (well_made (keys_of entries) arena) n may
 
     grown_entries : new
         ≡ (if list_any (same_node n) (keys_of entries) then entries
