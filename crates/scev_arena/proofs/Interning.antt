@@ -1,6 +1,8 @@
 -- A node that is interned stands at its place, and an arena stays one.
-use Rattle.std.proofs.Common.{◌≡◌, ℕ, ◌<◌, ◌≤◌, ◌⊎◌, inl, inr, Bool, true, false, if◌then◌else◌, List, [], ◌∷◌, ◌++◌, length, take, Some, slice_get, refl, sym, ap, ◌∙◌, subst, arith}
-use Rattle.std.specs.List.{list_any, Contains}
+use Rattle.std.proofs.Common.{◌≡◌, ℕ, ◌<◌, ◌≤◌, ◌⊎◌, inl, inr, suc, ◌+◌, Bool, true, false, not, ◌||◌}
+use Rattle.std.proofs.Common.{if◌then◌else◌, List, [], ◌∷◌, ◌++◌, length, take, Some, slice_get, refl, sym, ap, ◌∙◌}
+use Rattle.std.proofs.Common.{subst, arith}
+use Rattle.std.specs.List.{list_any, position_or_len, Contains}
 use Rattle.std.proofs.lemmas.Bool.{false≢true}
 use Rattle.std.proofs.lemmas.Map.Keys.{any_passes_from_place}
 use Rattle.std.proofs.lemmas.Option.{slice_get-get_or}
@@ -25,11 +27,29 @@ no_member : (old : List Node) (n : Node) → list_any (same_node n) old ≡ fals
 no_member old n unfound member =
     absent old n unfound member.0 (slice_get-get_or old member.0 n member.1 ∙ ap Some member.2)
 
--- the place that a test found holds the node
-pub stored_node : (nodes : List Node) (at : ℕ) (n stored : Node) → slice_get nodes at ≡ Some stored
-    → same_node n stored ≡ true
-    → slice_get nodes at ≡ Some n
-stored_node nodes at n stored e same = e ∙ ap Some (sym ((same_node_decides n stored).0 same))
+-- what stands before a choice
+pub behind : {A : Type 0} (b : Bool) (x : A) (xs ys : List A)
+    → x ∷ (if b then xs else ys) ≡ (if b then x ∷ xs else x ∷ ys)
+behind true x xs ys = refl
+behind false x xs ys = refl
+
+-- the first place that the test finds, or else the new last one, holds the node
+pub stored_node : (old : List Node) (n : Node)
+    → slice_get (with_node old n) (position_or_len (same_node n) old) ≡ Some n
+stored_node [] n = refl
+stored_node (k ∷ ks) n = by_test (same_node n k) refl (stored_node ks n)
+  where
+    by_test : (b : Bool) → same_node n k ≡ b
+        → slice_get (with_node ks n) (position_or_len (same_node n) ks) ≡ Some n
+        → slice_get (if b || list_any (same_node n) ks then k ∷ ks else k ∷ (ks ++ n ∷ []))
+        (if not b then 1 + position_or_len (same_node n) ks else 0) ≡ Some n
+    by_test true same later = ap Some (sym ((same_node_decides n k).0 same))
+    by_test false other later =
+        let next : 1 + position_or_len (same_node n) ks ≡ suc (position_or_len (same_node n) ks) = omega arith in
+        ap (slice_get (if list_any (same_node n) ks then k ∷ ks else k ∷ (ks ++ n ∷ []))) next
+        ∙ ap (λ l. slice_get l (suc (position_or_len (same_node n) ks)))
+        (sym (behind (list_any (same_node n) ks) k ks (ks ++ n ∷ [])))
+        ∙ later
 
 -- An arena with a node that is new and may stand is an arena.
 grown_arena : (old : List Node) (n : Node) → IsArena old → MayStand old n

@@ -3,5 +3,11 @@ pub mod Inductions
 pub mod PlacesStay
 pub mod CanonicalPlaces
 pub mod WellMade
+pub mod Measured
+pub mod NodesMeasured
 pub mod OnePlace
 pub mod Interning
+pub mod LimitsTold
+pub mod LimitsMeasured
+pub mod MeasuresKept
+pub mod Interned

@@ -1,19 +1,20 @@
 -- Two places of an arena that hold one thing are one.
-use Rattle.std.proofs.Common.{◌≡◌, ℕ, ◌<◌, inl, inr, List, [], ◌∷◌, ◌++◌, length, map, Some, slice_get, refl, sym, ap, ◌∙◌, subst, arith}
+use Rattle.std.proofs.Common.{◌≡◌, ℕ, ◌<◌, inl, inr, List, [], ◌∷◌, ◌++◌, length, map}
+use Rattle.std.proofs.Common.{Some, slice_get, refl, sym, ap, ◌∙◌, subst, arith}
 use Rattle.scev_base.specs.declared.ids.ExprId.{ExprId}
 use Rattle.scev_tree.specs.Tree.{parts_of}
 use Rattle.poly_terms.specs.declared.term.Term.{Term}
 use Rattle.scev_arena.specs.declared.node.Node.{Node}
 use Rattle.scev_arena.specs.declared.node.Node.TheVariants as node
-use Rattle.scev_arena.specs.Meaning.{Meant, TreeOf, AtomOf, node_meant, meanings, tree_in, atom_in, tree_of, atom_of}
+use Rattle.scev_arena.specs.Meaning.{Meant, TreeOf, AtomOf, node_meant, meanings, tree_of, atom_of}
 use Rattle.scev_arena.specs.Meaning.{factors_at, terms_at}
-use Rattle.scev_arena.specs.Standing.{HoldsTree, HoldsAtom, IsTreeAt, IsAtomAt, AreTrees, AreAtoms, AreOverAtoms}
+use Rattle.scev_arena.specs.Standing.{IsTreeAt, IsAtomAt, AreTrees, AreAtoms, AreOverAtoms}
 use Rattle.scev_arena.specs.Standing.{MayStand, IsArena}
 use Rattle.scev_arena.specs.NodeLaws.{one_id, one_width, one_term}
 use Rattle.scev_arena.proofs.Places.{at_place, place_of_more}
 use Rattle.scev_arena.proofs.Inductions.{front_is_arena, last_stands, last_is_new, by_nodes}
 use Rattle.scev_arena.proofs.PlacesStay.{one_more, as_many}
-use Rattle.scev_arena.proofs.WellMade.{IsWellMade, well_made, tree_within, atom_within}
+use Rattle.scev_arena.proofs.WellMade.{IsWellMade, well_made, tree_held, atom_held}
 
 -- two places that hold one thing are one
 pub record AreApart (nodes : List Node) : Type 0 where
@@ -23,45 +24,19 @@ pub record AreApart (nodes : List Node) : Type 0 where
       → i ≡ j
 
 module _ (nodes : List Node) (made : IsWellMade nodes) (different : AreApart nodes) where
-  -- a tree's place holds what its node means
-  tree_held : (id : ExprId) → IsTreeAt nodes id → slice_get (meanings nodes) id.0 ≡ Some (TreeOf (tree_of nodes id))
-  tree_held id h =
-      let there = at_place nodes id.0 (tree_within nodes id h) in
-      by_node there.0 there.1 (subst HoldsTree there.1 h)
-    where
-      by_node : (n : Node) → slice_get nodes id.0 ≡ Some n → HoldsTree (Some n)
-          → slice_get (meanings nodes) id.0 ≡ Some (TreeOf (tree_of nodes id))
-      by_node (node.Tree width terms) e h =
-          let held = made.holds id.0 (node.Tree width terms) e in
-          held ∙ ap (λ o. Some (TreeOf (tree_in o))) (sym held)
-      by_node (node.Atom kind width parts) e h = absurd h
-
-  atom_held : (w : ℕ) (id : ExprId) → IsAtomAt nodes w id
-      → slice_get (meanings nodes) id.0 ≡ Some (AtomOf (atom_of nodes id))
-  atom_held w id h =
-      let there = at_place nodes id.0 (atom_within nodes w id h) in
-      by_node there.0 there.1 (subst (HoldsAtom w) there.1 h)
-    where
-      by_node : (n : Node) → slice_get nodes id.0 ≡ Some n → HoldsAtom w (Some n)
-          → slice_get (meanings nodes) id.0 ≡ Some (AtomOf (atom_of nodes id))
-      by_node (node.Tree width terms) e h = absurd h
-      by_node (node.Atom kind width parts) e h =
-          let held = made.holds id.0 (node.Atom kind width parts) e in
-          held ∙ ap (λ o. Some (AtomOf (atom_in o))) (sym held)
-
   -- places of one tree, or of one atom, are one
   pub one_tree_place : (x y : ExprId) → IsTreeAt nodes x → IsTreeAt nodes y → tree_of nodes x ≡ tree_of nodes y
       → x.0 ≡ y.0
   one_tree_place x y hx hy e =
-      different.apart x.0 y.0 (TreeOf (tree_of nodes x)) (tree_held x hx)
-      (tree_held y hy ∙ ap (λ tree. Some (TreeOf tree)) (sym e))
+      different.apart x.0 y.0 (TreeOf (tree_of nodes x)) (tree_held nodes made x hx)
+      (tree_held nodes made y hy ∙ ap (λ tree. Some (TreeOf tree)) (sym e))
 
   pub one_atom_place : (v w : ℕ) (x y : ExprId) → IsAtomAt nodes v x → IsAtomAt nodes w y
       → atom_of nodes x ≡ atom_of nodes y
       → x.0 ≡ y.0
   one_atom_place v w x y hx hy e =
-      different.apart x.0 y.0 (AtomOf (atom_of nodes x)) (atom_held v x hx)
-      (atom_held w y hy ∙ ap (λ a. Some (AtomOf a)) (sym e))
+      different.apart x.0 y.0 (AtomOf (atom_of nodes x)) (atom_held nodes made v x hx)
+      (atom_held nodes made w y hy ∙ ap (λ a. Some (AtomOf a)) (sym e))
 
   -- places of the same factors are one list
   one_list_of_factors : (w : ℕ) (xs ys : List ExprId) → AreAtoms nodes w xs → AreAtoms nodes w ys

@@ -1,5 +1,6 @@
 -- In an arena each node may stand among all, and its place holds what the node means among all.
-use Rattle.std.proofs.Common.{◌≡◌, ℕ, ◌<◌, inl, inr, List, [], ◌∷◌, ◌++◌, length, map, Some, slice_get, refl, sym, ap, ◌∙◌, subst}
+use Rattle.std.proofs.Common.{◌≡◌, ℕ, ◌<◌, inl, inr, List, [], ◌∷◌, ◌++◌, length, map}
+use Rattle.std.proofs.Common.{Some, slice_get, refl, sym, ap, ◌∙◌, subst}
 use Rattle.std.proofs.lemmas.Bool.{cases_lt}
 use Rattle.scev_base.specs.declared.ids.ExprId.{ExprId}
 use Rattle.scev_tree.specs.Tree.{polynomial, term, factor, atom, parts_of}
@@ -7,10 +8,11 @@ use Rattle.scev_tree.specs.Canonical.{HasParts, IsCanonical}
 use Rattle.poly_terms.specs.declared.term.Term.{Term}
 use Rattle.scev_arena.specs.declared.node.Node.{Node}
 use Rattle.scev_arena.specs.declared.node.Node.TheVariants as node
-use Rattle.scev_arena.specs.Meaning.{TreeOf, AtomOf, node_meant, meanings, tree_of, atom_of}
+use Rattle.scev_arena.specs.Meaning.{TreeOf, AtomOf, node_meant, meanings, tree_in, atom_in, tree_of, atom_of}
 use Rattle.scev_arena.specs.Meaning.{factors_at, terms_at}
-use Rattle.scev_arena.specs.Standing.{HoldsTree, HoldsAtom, IsTreeAt, IsAtomAt, AreTrees, AreAtoms, AreOverAtoms, MayStand, IsArena}
-use Rattle.scev_arena.proofs.Places.{place_before, place_past, place_of_more}
+use Rattle.scev_arena.specs.Standing.{HoldsTree, HoldsAtom, IsTreeAt, IsAtomAt, AreTrees, AreAtoms}
+use Rattle.scev_arena.specs.Standing.{AreOverAtoms, MayStand, IsArena}
+use Rattle.scev_arena.proofs.Places.{at_place, place_before, place_past, place_of_more}
 use Rattle.scev_arena.proofs.Inductions.{last_stands, by_nodes}
 use Rattle.scev_arena.proofs.PlacesStay.{tree_stays, atom_stays, place_stays, last_holds}
 
@@ -52,7 +54,8 @@ module _ (nodes more : List Node) where
 
   -- ---- and means the same
 
-  pub parts_stay : (ids : List ExprId) → AreTrees nodes ids → map (tree_of (nodes ++ more)) ids ≡ map (tree_of nodes) ids
+  pub parts_stay : (ids : List ExprId) → AreTrees nodes ids
+      → map (tree_of (nodes ++ more)) ids ≡ map (tree_of nodes) ids
   parts_stay [] h = refl
   parts_stay (id ∷ ids) h =
       ap (λ tree. tree ∷ map (tree_of (nodes ++ more)) ids) (tree_stays nodes more id (tree_within nodes id h.0))
@@ -129,3 +132,30 @@ module _ (before : List Node) (n : Node) (arena : IsArena (before ++ n ∷ [])) 
 -- An arena is well made.
 pub well_made : (nodes : List Node) → IsArena nodes → IsWellMade nodes
 well_made nodes arena = by_nodes IsWellMade none_made more_made nodes arena
+
+module _ (nodes : List Node) (made : IsWellMade nodes) where
+  -- a tree's place holds what its node means
+  pub tree_held : (id : ExprId) → IsTreeAt nodes id → slice_get (meanings nodes) id.0 ≡ Some (TreeOf (tree_of nodes id))
+  tree_held id h =
+      let there = at_place nodes id.0 (tree_within nodes id h) in
+      by_node there.0 there.1 (subst HoldsTree there.1 h)
+    where
+      by_node : (n : Node) → slice_get nodes id.0 ≡ Some n → HoldsTree (Some n)
+          → slice_get (meanings nodes) id.0 ≡ Some (TreeOf (tree_of nodes id))
+      by_node (node.Tree width terms) e h =
+          let held = made.holds id.0 (node.Tree width terms) e in
+          held ∙ ap (λ o. Some (TreeOf (tree_in o))) (sym held)
+      by_node (node.Atom kind width parts) e h = absurd h
+
+  pub atom_held : (w : ℕ) (id : ExprId) → IsAtomAt nodes w id
+      → slice_get (meanings nodes) id.0 ≡ Some (AtomOf (atom_of nodes id))
+  atom_held w id h =
+      let there = at_place nodes id.0 (atom_within nodes w id h) in
+      by_node there.0 there.1 (subst (HoldsAtom w) there.1 h)
+    where
+      by_node : (n : Node) → slice_get nodes id.0 ≡ Some n → HoldsAtom w (Some n)
+          → slice_get (meanings nodes) id.0 ≡ Some (AtomOf (atom_of nodes id))
+      by_node (node.Tree width terms) e h = absurd h
+      by_node (node.Atom kind width parts) e h =
+          let held = made.holds id.0 (node.Atom kind width parts) e in
+          held ∙ ap (λ o. Some (AtomOf (atom_in o))) (sym held)

@@ -3,3 +3,4 @@ pub mod NodeLaws
 pub mod Meaning
 pub mod Standing
 pub mod Limits
+pub mod Measures

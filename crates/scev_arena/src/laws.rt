@@ -2,10 +2,12 @@
 
 ghost use Rattle.std.specs.Prelude.{◌≡◌, ℕ, ◌<◌, List, ◌++◌, length, take, Some, slice_get};
 ghost use Rattle.scev_base.specs.declared.ids.ExprId.{ExprId};
+ghost use Rattle.scev_tree.specs.Tree.{Tree};
 ghost use Rattle.scev_tree.specs.Canonical.{IsCanonical, IsCanonicalAtom};
 ghost use Rattle.scev_arena.specs.declared.node.Node.{Node};
 ghost use Rattle.scev_arena.specs.Meaning.{Meant, meanings, tree_of, atom_of};
 ghost use Rattle.scev_arena.specs.Standing.{IsTreeAt, IsAtomAt, IsArena};
+ghost use Rattle.scev_arena.specs.Limits.{first_limit, IsFirstLimit};
 
 /// What a place holds stays as the arena grows.
 pub fn places_stay()
@@ -37,4 +39,10 @@ pub fn one_place()
         → slice_get (meanings nodes) i ≡ Some held
         → slice_get (meanings nodes) j ≡ Some held
         → i ≡ j }
+{}
+
+/// The first limit that is told of a tree is one that it is above, and it is above none before that; none is told where
+/// it is within all of them.
+pub fn limits_are_told()
+    ensures { (tree : Tree) → IsFirstLimit tree (first_limit tree) }
 {}

@@ -5,6 +5,7 @@
 mod arena;
 pub mod laws;
 mod limit;
+mod measure;
 mod node;
 
 pub use arena::Arena;

@@ -1,7 +1,7 @@
 //! Limits of expressions.
 
-/// The limits of `scev_base::limits` that a tree can be above, in the order in which they are looked at. A tree is above
-/// one where it is, or a tree in it.
+/// The limits of `scev_base::limits` that a tree can be above, in the order in which they are looked at. A tree is
+/// above one where it is, or a tree in it.
 #[derive(Clone, Copy, Debug, PartialEq, Eq)]
 pub enum Limit {
     /// A polynomial has more than `MONOMIALS` monomials, or one of more than `FACTORS` factors.
