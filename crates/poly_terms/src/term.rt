@@ -17,12 +17,8 @@ pub struct Term {
 }
 
 impl Term {
-    /// A term of its own with this monomial and coefficient.
-    pub(crate) fn copied(
-        alloc: Global,
-        ids: &[ExprId],
-        coefficient: u64,
-    ) -> Result<Term, AllocError>
+    /// A term of its own with this monomial and coefficient. It fails only where no memory is found.
+    pub fn copied(alloc: Global, ids: &[ExprId], coefficient: u64) -> Result<Term, AllocError>
         ensures ids { IfOk result (λ term. term.ids ≡ ids.now) }
         ensures coefficient { IfOk result (λ term. term.coefficient ≡ coefficient) }
     {
@@ -32,8 +28,8 @@ impl Term {
         })
     }
 
-    /// A term of its own that is the same.
-    pub(crate) fn copy(&self, alloc: Global) -> Result<Term, AllocError>
+    /// A term of its own that is the same. It fails only where no memory is found.
+    pub fn copy(&self, alloc: Global) -> Result<Term, AllocError>
         ensures { IfOk result (λ term. term ≡ self.now) }
     {
         Term::copied(alloc, self.ids.as_slice(), self.coefficient)

@@ -5,3 +5,4 @@ pub mod LoopLemmas
 pub mod ResidueLemmas
 pub mod CarryLemmas
 pub mod SumLemmas
+pub mod CarriedPlans

@@ -1,7 +1,7 @@
 -- One turn more of the loops that form plans and carry them out.
 use Rattle.std.proofs.Common.{◌≡◌, ℕ, zero, suc, ◌+◌, ◌-◌, ◌<◌, ◌≤◌, List, [], ◌∷◌, ◌++◌, drop, get_or, slice_get, Option, refl, sym, ap, ◌∙◌, arith, get_or-drop}
 use Rattle.std.specs.List.{range_with_len}
-use Rattle.rec_algebra.specs.declared.plan.Plan.{Plan}
+use Rattle.rec_algebra.specs.Plans.{Plan}
 use Rattle.rec_algebra.specs.declared.plan.PlanStep.{PlanStep}
 use Rattle.rec_algebra.specs.Forming.{Formed, joined_three, with_place, summed, multiplied, Row, product_row, product_table}
 
@@ -172,13 +172,13 @@ product_table_end parts count i rights past =
 plan_of : ℕ → List PlanStep → List ℕ → Plan
 plan_of parts steps results = record { parts = parts; steps = steps; results = results }
 
--- A plan is known by what contracts see of it.
-pub plan_is : (plan : Plan) (parts : ℕ) (steps : List PlanStep) (results : List ℕ) → plan.parts ≡ parts
-    → plan.steps ≡ steps → plan.results ≡ results → plan ≡ record { parts = parts; steps = steps; results = results }
+-- A plan is known by what it is made of.
+pub plan_is : (plan : Plan) (parts : ℕ) (steps : List PlanStep) (results : List ℕ) → parts ≡ plan.parts
+    → steps ≡ plan.steps → results ≡ plan.results → record { parts = parts; steps = steps; results = results } ≡ plan
 unfolding plan_of
 plan_is plan parts steps results e e' e'' =
-    ap (λ p. plan_of p plan.steps plan.results) e ∙ ap (λ s. plan_of parts s plan.results) e' ∙ ap
-    (λ r. plan_of parts steps r) e''
+    ap (λ p. plan_of p steps results) e ∙ ap (λ s. plan_of plan.parts s results) e'
+    ∙ ap (λ r. plan_of plan.parts plan.steps r) e''
 
 range_snoc : (start count : ℕ) → range_with_len start count ++ (start + count) ∷ [] ≡ range_with_len start (suc count)
 range_snoc start zero = ap (λ k. k ∷ []) (omega arith)

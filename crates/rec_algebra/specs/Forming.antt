@@ -1,7 +1,7 @@
 -- How the plans of a sum, of a multiple and of a product of recurrences are formed.
 use Rattle.std.specs.Prelude.{ℕ, zero, suc, ◌+◌, min, max, List, [], ◌∷◌, ◌++◌, length, map, drop, slice_get, slice_index_or, Option, Some, None}
 use Rattle.std.specs.List.{range_with_len}
-use Rattle.rec_algebra.specs.declared.plan.Plan.{Plan}
+use Rattle.rec_algebra.specs.Plans.{Plan}
 use Rattle.rec_algebra.specs.declared.plan.PlanStep.{PlanStep}
 use Rattle.rec_algebra.specs.declared.plan.PlanStep.TheVariants as step
 

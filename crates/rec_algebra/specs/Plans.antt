@@ -1,8 +1,13 @@
 -- Plans of steps: which are plans, and what carrying one out gives.
 use Rattle.std.specs.Prelude.{ℕ, suc, ◌+◌, ◌<◌, List, [], ◌∷◌, ◌++◌, All, length, map, slice_index_or}
-use Rattle.rec_algebra.specs.declared.plan.Plan.{Plan}
 use Rattle.rec_algebra.specs.declared.plan.PlanStep.{PlanStep}
 use Rattle.rec_algebra.specs.declared.plan.PlanStep.TheVariants as step
+
+-- How many parts the operands have together, the steps in order, and the places of the result's parts in order.
+pub record Plan : Type 0 where
+  pub parts : ℕ
+  pub steps : List PlanStep
+  pub results : List ℕ
 
 -- The step names places below the count alone.
 abbrev pub IsStepBelow : ℕ → PlanStep → Type 0

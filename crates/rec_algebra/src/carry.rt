@@ -1,7 +1,7 @@
 //! The carrying out of plans.
 
 ghost use Rattle.std.specs.Prelude.{◌≡◌, ℕ, ◌+◌, List, All, length, take, drop, IfOk};
-ghost use Rattle.rec_algebra.specs.Plans.{IsPlan, IsStepBelow, carried, place_items, step_item};
+ghost use Rattle.rec_algebra.specs.Plans.{IsStepBelow, carried, place_items, step_item};
 ghost use Rattle.rec_algebra.specs.Forming.{sum_plan, multiple_plan, product_plan};
 ghost use Rattle.rec_algebra.specs.Values.{HasValue};
 
@@ -19,7 +19,6 @@ pub fn carry_out<R: Ring>(
     plan: &Plan,
     parts: &[R::Item],
 ) -> Result<Vec<R::Item>, AllocError>
-    requires plan { IsPlan plan.now }
     requires count { length parts.now ≡ plan.now.parts }
     requires admitted { All (R.admits r.now) parts.now }
     ensures count { IfOk result (λ items. length items.items ≡ length plan.now.results) }
@@ -43,8 +42,9 @@ pub fn carry_out<R: Ring>(
         → HasValue (R.plus r.now) turn items.items (R.times r.now left right)) }
 {
     let items = all_items(alloc, r, plan, parts)?;
-    let mut results = Vec::with_capacity(alloc, plan.results.len())?;
-    for place in plan.results.as_slice() {
+    let places = plan.result();
+    let mut results = Vec::with_capacity(alloc, places.len())?;
+    for place in places {
         results.push(items[*place as usize])?;
     }
     Ok(results)
@@ -57,7 +57,6 @@ fn all_items<R: Ring>(
     plan: &Plan,
     parts: &[R::Item],
 ) -> Result<Vec<R::Item>, AllocError>
-    requires plan { IsPlan plan.now }
     requires count { length parts.now ≡ plan.now.parts }
     requires admitted { All (R.admits r.now) parts.now }
     ensures count { IfOk result (λ items. length items.items
@@ -67,7 +66,7 @@ fn all_items<R: Ring>(
     ensures admitted { IfOk result (λ items. All (R.admits r.now) items.items) }
 {
     let mut items = Vec::from_slice(alloc, parts)?;
-    for step in plan.steps.as_slice() {
+    for step in plan.steps() {
         let item = perform(r, &items, *step);
         items.push(item)?;
     }

@@ -3,6 +3,7 @@
 ghost use Rattle.std.specs.Prelude.{◌≡◌, ◌+◌, ◌^◌, ◌<◌, max, [], ◌∷◌, ◌++◌, length, slice_get, slice_index_or};
 ghost use Rattle.std.specs.Prelude.{IfOk, OnOk};
 ghost use Rattle.std.specs.List.{range_with_len};
+ghost use Rattle.rec_algebra.specs.Plans.{IsPlan};
 ghost use Rattle.rec_algebra.specs.Forming.{joined, joined_three, with_place, summed, multiplied, product_row};
 
 use crate::plan::{Plan, PlanStep};
@@ -15,14 +16,14 @@ use std::collections::VecDeque;
 pub(crate) struct Draft {
     pub(crate) parts: u64,
     pub(crate) steps: Vec<PlanStep>,
-    // So each place of a step is a u64.
-    ghost few: { parts < 2 ^ 32 },
+    // A `Vec` has fewer than 2^63 items, so each place of a step is a u64.
+    ghost few: { parts < 2 ^ 63 },
 }
 
 impl Draft {
     /// No steps yet.
     pub(crate) fn new(alloc: Global, parts: u64) -> Draft
-        requires { parts < 2 ^ 32 }
+        requires { parts < 2 ^ 63 }
         ensures parts { result.parts ≡ parts }
         ensures steps { result.steps.items ≡ [] }
     {
@@ -34,16 +35,11 @@ impl Draft {
 
     /// The plan of these steps whose result has these places.
     pub(crate) fn into_plan(self, results: Items<u64>) -> Plan
-        ensures parts { result.parts ≡ self.parts }
-        ensures steps { result.steps ≡ self.steps.items }
-        ensures results { result.results ≡ results }
+        requires { IsPlan (record { parts = self.parts; steps = self.steps.items; results = results }) }
+        ensures { result ≡ record { parts = self.parts; steps = self.steps.items; results = results } }
     {
         let Draft { parts, steps } = self;
-        Plan {
-            parts,
-            steps: Items::from_vec(steps),
-            results,
-        }
+        Plan::new(parts, Items::from_vec(steps), results)
     }
 
     /// Adds a last step, and answers its place.
@@ -152,7 +148,7 @@ impl Draft {
         count: usize,
         below: &VecDeque<Items<u64>>,
     ) -> Result<VecDeque<Items<u64>>, AllocError>
-        requires { start + count < 2 ^ 32 }
+        requires { start + count < 2 ^ 64 }
         ensures parts { self.new.parts ≡ self.old.parts }
         ensures products { IfOk result (λ row. row.items
             ≡ (product_row self.old.parts self.old.steps.items left (range_with_len start count)

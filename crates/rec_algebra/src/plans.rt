@@ -7,17 +7,15 @@ ghost use Rattle.rec_algebra.specs.Forming.{sum_plan, multiple_plan, product_pla
 
 use crate::draft::Draft;
 use crate::plan::{Plan, PlanStep};
-use scev_base::limits::DEGREE;
 use sqlite_items::Items;
 use std::alloc::{AllocError, Global};
 use std::collections::VecDeque;
 
-/// The plan of the sum of two recurrences of one loop, of `m` and of `n` parts, each from 1 to 9. They add
-/// part by part; where one is longer its further parts are taken over. It has max(m, n) parts. It fails only
-/// where no memory is found.
+/// The plan of the sum of two recurrences of one loop, of `m` and of `n` parts. They add part by part; where
+/// one is longer its further parts are taken over. It has max(m, n) parts. It fails only where no memory is
+/// found.
 pub fn add_plan(alloc: Global, m: u64, n: u64) -> Result<Plan, AllocError>
-    requires left { (1 ≤ m) × (m ≤ DEGREE + 1) }
-    requires right { (1 ≤ n) × (n ≤ DEGREE + 1) }
+    requires { m + n < 2 ^ 63 }
     ensures plan { IfOk result (λ plan. plan ≡ sum_plan m n) }
     ensures operands { IfOk result (λ plan. plan.parts ≡ m + n) }
     ensures count { IfOk result (λ plan. length plan.results ≡ max m n) }
@@ -31,10 +29,10 @@ pub fn add_plan(alloc: Global, m: u64, n: u64) -> Result<Plan, AllocError>
     Ok(draft.into_plan(Items::from_vec(results)))
 }
 
-/// The plan of the product of one factor, the first operand, and a recurrence of `n` parts, from 1 to 9:
-/// each part is multiplied. It fails only where no memory is found.
+/// The plan of the product of one factor, the first operand, and a recurrence of `n` parts: each part is
+/// multiplied. It fails only where no memory is found.
 pub fn scale_plan(alloc: Global, n: u64) -> Result<Plan, AllocError>
-    requires { (1 ≤ n) × (n ≤ DEGREE + 1) }
+    requires { 1 + n < 2 ^ 63 }
     ensures plan { IfOk result (λ plan. plan ≡ multiple_plan n) }
     ensures operands { IfOk result (λ plan. plan.parts ≡ 1 + n) }
     ensures count { IfOk result (λ plan. length plan.results ≡ n) }
@@ -48,16 +46,17 @@ pub fn scale_plan(alloc: Global, n: u64) -> Result<Plan, AllocError>
     Ok(draft.into_plan(Items::from_vec(results)))
 }
 
-/// The plan of the product of two recurrences of one loop, of `m` and of `n` parts, each from 1 to 9 (Bachmann,
+/// The plan of the product of two recurrences of one loop, of `m` and of `n` parts, at least one each (Bachmann,
 /// Wang, Zima 1994, Chains of Recurrences). The product of f and g starts at the product of their first
 /// parts. With Df for f without its first part, its step is f·Dg + g·Df + Df·Dg. It has m + n - 1 parts.
 ///
-/// The product of each suffix of f with each suffix of g is formed once, in at most 81 products. The suffixes
-/// of f are taken from the last part to the whole, and for each of them those of g in the same order. It
-/// fails only where no memory is found.
+/// The product of each suffix of f with each suffix of g is formed once, in m · n products. The suffixes of f
+/// are taken from the last part to the whole, and for each of them those of g in the same order. It fails only
+/// where no memory is found.
 pub fn mul_plan(alloc: Global, m: u64, n: u64) -> Result<Plan, AllocError>
-    requires left { (1 ≤ m) × (m ≤ DEGREE + 1) }
-    requires right { (1 ≤ n) × (n ≤ DEGREE + 1) }
+    requires left { 1 ≤ m }
+    requires right { 1 ≤ n }
+    requires few { m + n < 2 ^ 63 }
     ensures plan { IfOk result (λ plan. plan ≡ product_plan m n) }
     ensures operands { IfOk result (λ plan. plan.parts ≡ m + n) }
     ensures count { IfOk result (λ plan. length plan.results ≡ m + n - 1) }
@@ -83,7 +82,7 @@ fn first_product(alloc: Global, mut row: VecDeque<Items<u64>>) -> Items<u64>
 
 /// So many places from this one on.
 fn places_from(alloc: Global, start: u64, count: u64) -> Result<Vec<u64>, AllocError>
-    requires { start + count < 2 ^ 32 }
+    requires { start + count < 2 ^ 64 }
     ensures { IfOk result (λ places. places.items ≡ range_with_len start count) }
 {
     let mut places = Vec::with_capacity(alloc, count as usize)?;

@@ -1,7 +1,6 @@
 //! Sums, multiples and products of recurrences: the steps of their plans, and what comes of them.
 
 ghost use Rattle.std.specs.Prelude.{◌≡◌, length};
-ghost use Rattle.rec_algebra.specs.Plans.{IsPlan};
 
 use self::Formed::{Multiple, Product, Sum};
 use binomial_eval::eval_rec;
@@ -17,9 +16,9 @@ const DOUBLE: Width = Width { bits: 64 };
 /// A recurrence that is formed of others, by how many parts they have.
 #[derive(Clone, Copy)]
 enum Formed {
-    Sum(u64, u64),
-    Multiple(u64),
-    Product(u64, u64),
+    Sum(u8, u8),
+    Multiple(u8),
+    Product(u8, u8),
 }
 
 /// Steps by hand and the places of the result, with the parts f0, f1 .. of the first operand at the places 0, 1 ..,
@@ -48,17 +47,11 @@ const PLANS: [(Formed, &[PlanStep], &[u64]); 4] = [
 
 fn plan(rt: &impl Abort, alloc: Global, formed: Formed) -> Result<Plan, AllocError> {
     match formed {
-        Sum(m, n) => {
-            assert!(rt; 1 <= m && m <= 9 && 1 <= n && n <= 9);
-            add_plan(alloc, m, n)
-        }
-        Multiple(n) => {
-            assert!(rt; 1 <= n && n <= 9);
-            scale_plan(alloc, n)
-        }
+        Sum(m, n) => add_plan(alloc, u64::from(m), u64::from(n)),
+        Multiple(n) => scale_plan(alloc, u64::from(n)),
         Product(m, n) => {
-            assert!(rt; 1 <= m && m <= 9 && 1 <= n && n <= 9);
-            mul_plan(alloc, m, n)
+            assert!(rt; 1 <= m && 1 <= n);
+            mul_plan(alloc, u64::from(m), u64::from(n))
         }
     }
 }
@@ -67,7 +60,7 @@ fn plan(rt: &impl Abort, alloc: Global, formed: Formed) -> Result<Plan, AllocErr
 fn steps_by_hand(rt: HostRuntime) -> Result<(), Fail> {
     for (formed, steps, results) in PLANS {
         let plan = plan(&rt, rt.alloc(), formed)?;
-        assert_eq!(rt; plan.steps.as_slice(), steps);
+        assert_eq!(rt; plan.steps(), steps);
         assert_eq!(rt; plan.result(), results);
         assert_eq!(rt; plan.step(steps.len()), None);
     }
@@ -76,25 +69,28 @@ fn steps_by_hand(rt: HostRuntime) -> Result<(), Fail> {
 
 /// How many products the plan has.
 fn products(plan: &Plan) -> usize {
-    plan.steps
-        .as_slice()
+    plan.steps()
         .iter()
         .filter(|step| matches!(step, Mul(_, _)))
         .count()
 }
 
+/// Plans have no limit of their own, and either list of a sum may have no parts.
 #[test]
-fn longest_product(rt: HostRuntime) -> Result<(), Fail> {
-    let plan = mul_plan(rt.alloc(), 9, 9)?;
-    assert_eq!(rt; products(&plan), 81);
-    assert_eq!(rt; plan.result().len(), 17);
+fn any_number_of_parts(rt: HostRuntime) -> Result<(), Fail> {
+    let product = mul_plan(rt.alloc(), 12, 10)?;
+    assert_eq!(rt; product.parts(), 22);
+    assert_eq!(rt; products(&product), 120);
+    assert_eq!(rt; product.result().len(), 21);
+    let sum = add_plan(rt.alloc(), 0, 3)?;
+    assert_eq!(rt; sum.steps(), [].as_slice());
+    assert_eq!(rt; sum.result(), [0, 1, 2].as_slice());
     Ok(())
 }
 
 /// What comes of the plan over residues modulo 2^64.
 fn carried(alloc: Global, plan: &Plan, operands: &[u64]) -> Result<Vec<u64>, AllocError>
-    requires plan { IsPlan plan.now }
-    requires count { length operands.now ≡ plan.now.parts }
+    requires { length operands.now ≡ plan.now.parts }
 {
     carry_out(alloc, &Residues { width: DOUBLE }, plan, operands)
 }

@@ -7,16 +7,16 @@ use Rattle.rec_algebra.proofs.carry.all_items.Goals as goal
 
 pub perform-item-requires-clause-places : goal.perform-item-requires-clause-places
 perform-item-requires-clause-places g c =
-    let inside : c.loop-step.step-index < length c.args.plan.now.steps = rw c.as_slice-step-items.ensures at c.loop-step-test.true in
-    let below = names_at c.args.plan.now.parts c.args.plan.now.steps c.loop-step.step-index (step.Add 0 0) c.requires.plan.0 inside in
-    rw (c.as_slice-step-items.ensures, c.deref.ensures.value, c.loop-step.invariant.count) below
+    let inside : c.loop-step.step-index < length c.args.plan.now.steps = rw c.steps-step-items.ensures.steps at c.loop-step-test.true in
+    let below = names_at c.args.plan.now.parts c.args.plan.now.steps c.loop-step.step-index (step.Add 0 0) c.steps-step-items.ensures.plan.0 inside in
+    rw (c.steps-step-items.ensures.steps, c.deref.ensures.value, c.loop-step.invariant.count) below
 
 pub loop-step-preserved : goal.loop-step-preserved
 loop-step-preserved g c =
     let i = c.loop-step.step-index in
     let steps = c.args.plan.now.steps in
-    let inside : i < length steps = rw c.as_slice-step-items.ensures at c.loop-step-test.true in
-    let items = rw (c.as_slice-step-items.ensures, c.deref.ensures.value) at (c.perform-item.ensures.item) in
+    let inside : i < length steps = rw c.steps-step-items.ensures.steps at c.loop-step-test.true in
+    let items = rw (c.steps-step-items.ensures.steps, c.deref.ensures.value) at (c.perform-item.ensures.item) in
     let grown : length c.loop-step.items.items + 1 ≡ c.args.plan.now.parts + (c.loop-step.step-index + 1) = omega (arith, c.loop-step.invariant.count) in
     record {
       count = ap length c.in_ok-push.ensures.items ∙ length-append c.loop-step.items.items (c.perform-item.result ∷ []) ∙ grown;

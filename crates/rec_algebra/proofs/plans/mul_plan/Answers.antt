@@ -1,11 +1,11 @@
 use Rattle.std.proofs.Common.{◌≡◌, length, ℕ, List, ◌+◌, ◌-◌, ◌<◌, [], get_or, sym, ap, ◌∙◌, subst, arith}
 use Rattle.std.specs.List.{range_with_len}
-use Rattle.rec_algebra.specs.declared.plan.Plan.{Plan}
-use Rattle.rec_algebra.specs.Plans.{IsPlan}
+use Rattle.rec_algebra.specs.Plans.{Plan, IsPlan}
 use Rattle.rec_algebra.specs.Forming.{Row, product_plan}
 use Rattle.rec_algebra.proofs.LoopLemmas.{product_table_none, product_table_turn, product_table_end, plan_is}
 use Rattle.rec_algebra.proofs.PlanLemmas.{product_is_plan, product_counts}
 use Rattle.rec_algebra.proofs.plans.mul_plan.Goals as goal
+use Rattle.rec_algebra.proofs.plans.mul_plan.Goals.{After-first_product}
 
 pub loop-left-init : goal.loop-left-init
 loop-left-init c =
@@ -30,20 +30,37 @@ loop-left-preserved c =
       products = turn.1;
     }
 
-made : (c : goal.After-into_plan) → c.into_plan.result ≡ product_plan c.args.m c.args.n
+-- what the steps and the places so far make
+made : (c : After-first_product)
+    → record { parts = c.loop-left.draft.parts; steps = c.loop-left.draft.steps.items; results = c.first_product.result }
+    ≡ product_plan c.args.m c.args.n
 unfolding product_plan
 made c =
-    let whole = product_table_end (c.args.m + c.args.n) c.args.m c.loop-left.left (range_with_len c.args.m c.args.n) c.loop-left-test.false in
-    plan_is c.into_plan.result _ _ _ (c.into_plan.ensures.parts ∙ c.loop-left.invariant.same_parts) (c.into_plan.ensures.steps ∙ c.loop-left.invariant.steps ∙ ap (λ (r : Row). r.steps) whole) (c.into_plan.ensures.results ∙ c.first_product.ensures ∙ ap (λ (l : List (List ℕ)). get_or l 0 []) (c.loop-left.invariant.products ∙ ap (λ (r : Row). r.products) whole))
+    let draft = c.loop-left.draft in
+    let rights = range_with_len c.args.m c.args.n in
+    let table = product_table_end (c.args.m + c.args.n) c.args.m c.loop-left.left rights c.loop-left-test.false in
+    plan_is (product_plan c.args.m c.args.n) draft.parts draft.steps.items c.first_product.result
+    c.loop-left.invariant.same_parts (c.loop-left.invariant.steps ∙ ap (λ (r : Row). r.steps) table)
+    (c.first_product.ensures ∙ ap (λ (l : List (List ℕ)). get_or l 0 [])
+    (c.loop-left.invariant.products ∙ ap (λ (r : Row). r.products) table))
+
+pub into_plan-requires : goal.into_plan-requires
+into_plan-requires c = subst IsPlan (sym (made c)) (product_is_plan c.args.m c.args.n)
 
 pub returns-clause-plan : goal.returns-clause-plan
-returns-clause-plan c = made c
+returns-clause-plan c = c.into_plan.ensures ∙ made (goal.at.returns-clause-plan c).After-first_product
 
 pub returns-clause-places : goal.returns-clause-places
-returns-clause-places c = subst IsPlan (sym (made c)) (product_is_plan c.args.m c.args.n)
+returns-clause-places c =
+    let e = c.into_plan.ensures ∙ made (goal.at.returns-clause-places c).After-first_product in
+    subst IsPlan (sym e) (product_is_plan c.args.m c.args.n)
 
 pub returns-clause-operands : goal.returns-clause-operands
-returns-clause-operands c = ap (λ (p : Plan). p.parts) (made c) ∙ (product_counts c.args.m c.args.n c.requires.left.0 c.requires.right.0).0
+returns-clause-operands c =
+    let e = c.into_plan.ensures ∙ made (goal.at.returns-clause-operands c).After-first_product in
+    ap (λ (p : Plan). p.parts) e ∙ (product_counts c.args.m c.args.n c.requires.left c.requires.right).0
 
 pub returns-clause-count : goal.returns-clause-count
-returns-clause-count c = ap (λ (p : Plan). length p.results) (made c) ∙ (product_counts c.args.m c.args.n c.requires.left.0 c.requires.right.0).1
+returns-clause-count c =
+    let e = c.into_plan.ensures ∙ made (goal.at.returns-clause-count c).After-first_product in
+    ap (λ (p : Plan). length p.results) e ∙ (product_counts c.args.m c.args.n c.requires.left c.requires.right).1

@@ -1,15 +1,14 @@
 use Rattle.std.proofs.Common.{◌≡◌, ℕ, ◌+◌, ◌++◌, ◌∷◌, List, [], map, length, sym, ap, ◌∙◌, subst, arith}
 use Rattle.std.specs.List.{range_with_len}
 use Rattle.std.proofs.lemmas.List.FromFn.{map-range_with_len_more, length-map-range_with_len}
-use Rattle.rec_algebra.specs.declared.plan.Plan.{Plan}
 use Rattle.rec_algebra.specs.declared.plan.PlanStep.{PlanStep}
 use Rattle.rec_algebra.specs.declared.plan.PlanStep.TheVariants as step
-use Rattle.rec_algebra.specs.Plans.{IsPlan}
+use Rattle.rec_algebra.specs.Plans.{Plan, IsPlan}
 use Rattle.rec_algebra.specs.Forming.{multiple_plan}
 use Rattle.rec_algebra.proofs.LoopLemmas.{plan_is, range_one_more}
 use Rattle.rec_algebra.proofs.PlanLemmas.{multiple_is_plan, multiple_counts}
 use Rattle.rec_algebra.proofs.plans.scale_plan.Goals as goal
-use Rattle.rec_algebra.proofs.plans.scale_plan.Goals.{After-into_plan}
+use Rattle.rec_algebra.proofs.plans.scale_plan.Goals.{After-from_vec}
 
 pub loop-i-preserved : goal.loop-i-preserved
 loop-i-preserved c =
@@ -28,20 +27,35 @@ loop-i-preserved c =
           ∙ range_one_more (1 + c.args.n) i;
     }
 
-made : (c : After-into_plan) → c.into_plan.result ≡ multiple_plan c.args.n
+-- what the steps and the places so far make
+made : (c : After-from_vec)
+    → record { parts = c.loop-i.draft.parts; steps = c.loop-i.draft.steps.items; results = c.from_vec.result }
+    ≡ multiple_plan c.args.n
 unfolding multiple_plan
 made c =
     let all : c.loop-i.i ≡ c.args.n = omega arith in
-    plan_is c.into_plan.result _ _ _ (c.into_plan.ensures.parts ∙ c.loop-i.invariant.same_parts) (c.into_plan.ensures.steps ∙ c.loop-i.invariant.steps ∙ ap (λ k. map (λ i. step.Mul 0 (1 + i)) (range_with_len 0 k)) all) (c.into_plan.ensures.results ∙ c.from_vec.ensures ∙ c.loop-i.invariant.results ∙ ap (range_with_len (1 + c.args.n)) all)
+    plan_is (multiple_plan c.args.n) c.loop-i.draft.parts c.loop-i.draft.steps.items c.from_vec.result
+    c.loop-i.invariant.same_parts
+    (c.loop-i.invariant.steps ∙ ap (λ k. map (λ i. step.Mul 0 (1 + i)) (range_with_len 0 k)) all)
+    (c.from_vec.ensures ∙ c.loop-i.invariant.results ∙ ap (range_with_len (1 + c.args.n)) all)
+
+pub into_plan-requires : goal.into_plan-requires
+into_plan-requires c = subst IsPlan (sym (made c)) (multiple_is_plan c.args.n)
 
 pub returns-clause-plan : goal.returns-clause-plan
-returns-clause-plan c = made c
+returns-clause-plan c = c.into_plan.ensures ∙ made (goal.at.returns-clause-plan c).After-from_vec
 
 pub returns-clause-places : goal.returns-clause-places
-returns-clause-places c = subst IsPlan (sym (made c)) (multiple_is_plan c.args.n)
+returns-clause-places c =
+    let e = c.into_plan.ensures ∙ made (goal.at.returns-clause-places c).After-from_vec in
+    subst IsPlan (sym e) (multiple_is_plan c.args.n)
 
 pub returns-clause-operands : goal.returns-clause-operands
-returns-clause-operands c = ap (λ (p : Plan). p.parts) (made c) ∙ (multiple_counts c.args.n).0
+returns-clause-operands c =
+    let e = c.into_plan.ensures ∙ made (goal.at.returns-clause-operands c).After-from_vec in
+    ap (λ (p : Plan). p.parts) e ∙ (multiple_counts c.args.n).0
 
 pub returns-clause-count : goal.returns-clause-count
-returns-clause-count c = ap (λ (p : Plan). length p.results) (made c) ∙ (multiple_counts c.args.n).1
+returns-clause-count c =
+    let e = c.into_plan.ensures ∙ made (goal.at.returns-clause-count c).After-from_vec in
+    ap (λ (p : Plan). length p.results) e ∙ (multiple_counts c.args.n).1
