@@ -1,1 +1,23 @@
-
+pub mod Outcomes
+pub mod Kept
+pub mod Polynomials
+pub mod Standing
+pub mod Trimmed
+pub mod Carried
+pub mod PartSums
+pub mod Monomials
+pub mod Groups
+pub mod Formers
+pub mod SumsFormed
+pub mod Atoms
+pub mod Quotients
+pub mod Readings
+pub mod Extensions
+pub mod Choices
+pub mod Flat
+pub mod Minima
+pub mod Sequences
+pub mod Truncations
+pub mod CutNumbers
+pub mod TruncatedValues
+pub mod Loops

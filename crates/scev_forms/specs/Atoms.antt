@@ -1,7 +1,7 @@
 -- Trees that are numbers, or one atom.
-use Rattle.std.specs.Prelude.{ℕ, ◌==◌, Bool, true, false, ◌&&◌, if◌then◌else◌, List, [], ◌∷◌, Option, Some, None}
+use Rattle.std.specs.Prelude.{ℕ, ◌==◌, if◌then◌else◌, List, Option, Some, None}
 use Rattle.scev_tree.specs.declared.kind.Kind.{Kind}
-use Rattle.scev_tree.specs.Tree.{Tree, Atom, Parts, polynomial, no_terms, term, no_factors, factor, atom, of_atom}
+use Rattle.scev_tree.specs.Tree.{Tree, Atom, polynomial, no_terms, term, no_factors, factor, atom, of_atom}
 use Rattle.scev_tree.specs.Tree.{parts_of}
 use Rattle.scev_forms.specs.Outcome.{Outcome, tested}
 

@@ -1,5 +1,5 @@
 -- Truncations and extensions as they are formed.
-use Rattle.std.specs.Prelude.{ℕ, ◌%◌, ◌^◌, ◌==◌, nat_lt, Bool, true, false, if◌then◌else◌, List, [], ◌∷◌, Option, Some, None}
+use Rattle.std.specs.Prelude.{ℕ, ◌%◌, ◌^◌, ◌==◌, nat_lt, Bool, if◌then◌else◌, List, [], ◌∷◌, Option, Some, None}
 use Rattle.scev_base.specs.Residue.{residue, reading}
 use Rattle.scev_tree.specs.declared.kind.Kind.{Kind}
 use Rattle.scev_tree.specs.declared.kind.Kind.TheVariants as kind

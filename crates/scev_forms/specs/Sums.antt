@@ -1,9 +1,9 @@
 -- Sums, products and recurrences as they are formed.
-use Rattle.std.specs.Prelude.{ℕ, zero, suc, ◌==◌, Bool, true, false, ◌&&◌, if◌then◌else◌}
+use Rattle.std.specs.Prelude.{ℕ, zero, suc, Bool, true, if◌then◌else◌}
 use Rattle.std.specs.Prelude.{List, [], ◌∷◌, ◌++◌, length, map, slice_index_or, Option, Some, None}
 use Rattle.rec_algebra.specs.declared.plan.PlanStep.{PlanStep}
 use Rattle.rec_algebra.specs.declared.plan.PlanStep.TheVariants as step
-use Rattle.rec_algebra.specs.declared.plan.Plan.{Plan}
+use Rattle.rec_algebra.specs.Plans.{Plan}
 use Rattle.rec_algebra.specs.Forming.{sum_plan, multiple_plan, product_plan}
 use Rattle.scev_tree.specs.declared.kind.Kind.TheVariants as kind
 use Rattle.scev_tree.specs.Tree.{Tree, Terms, Factors, polynomial, no_terms, term, no_factors, factor}

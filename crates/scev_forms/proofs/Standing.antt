@@ -1,0 +1,213 @@
+-- Trees and parts of recurrences that stand for a value: canonical, and with that value wherever it is a number.
+use Rattle.std.proofs.Common.{◌≡◌, ℕ, ◌%◌, ◌^◌, ◌<◌, ◌==◌, List, [], ◌∷◌, map}
+use Rattle.std.proofs.Common.{Option, Some, None, refl, sym, ap, ◌∙◌, subst, arith}
+use Rattle.std.proofs.Math.Nat.{mod-eq_of_lt}
+use Rattle.std.proofs.lemmas.Bool.{cond_both, eqb-true, eqb-false}
+use Rattle.std.proofs.lemmas.Nat.{pow_pos, pow_below, mod_below}
+use Rattle.scev_base.specs.Iterated.{iterated}
+use Rattle.rec_algebra.proofs.AlgebraLemmas.{Each, value_closed, value_of_single}
+use Rattle.scev_tree.specs.declared.kind.Kind.TheVariants as kind
+use Rattle.scev_tree.specs.Tree.{Tree, Terms, Atom, Parts, polynomial, no_terms, term, no_factors, atom}
+use Rattle.scev_tree.specs.Tree.{no_parts, part, constant, parts_of, trees_of}
+use Rattle.scev_tree.specs.Canonical.{AreCanonicalTerms, AreCanonicalParts, IsCanonicalAtom, HaveWidth}
+use Rattle.scev_tree.specs.Value.{sum, product, values, tree_value, terms_value, atom_value, parts_values}
+use Rattle.scev_tree.proofs.Arithmetic.{IsBelow, product_closed, one_times}
+use Rattle.scev_tree.proofs.Values.{tree_below}
+use Rattle.scev_forms.specs.Trees.{IsTreeOf, AreTreesOf}
+use Rattle.scev_forms.specs.Outcome.{Outcome}
+use Rattle.scev_forms.specs.Polynomials.{terms_of}
+use Rattle.scev_forms.specs.Sums.{recurrence}
+use Rattle.scev_forms.proofs.Outcomes.{Gives}
+use Rattle.scev_forms.proofs.Kept.{Keeps, keeps_same, keeps_none, keeps_again, plus_zero, times_one, number_semiring}
+
+-- ---- what stands for a value
+
+-- the value of a recurrence at a turn, of those of its parts; no parts have none
+abbrev pub value_at : ℕ → ℕ → List (Option ℕ) → Option ℕ
+value_at w turn [] = None
+value_at w turn (x ∷ xs) = iterated (sum w) turn x xs
+
+module _ (held : ℕ → Option ℕ) (turns : ℕ → ℕ) (w : ℕ) where
+  -- a canonical tree of w bits has the value wherever it is a number
+  abbrev pub Stands : Option ℕ → Tree → Type 0
+  Stands x tree = IsTreeOf w tree × Keeps x (tree_value held turns tree)
+
+  -- each tree stands for the value at its place
+  abbrev pub AllStand : List (Option ℕ) → List Tree → Type 0
+  AllStand [] [] = Unit {0}
+  AllStand [] (tree ∷ trees) = ⊥
+  AllStand (x ∷ xs) [] = ⊥
+  AllStand (x ∷ xs) (tree ∷ trees) = Stands x tree × AllStand xs trees
+
+  -- the value of the recurrence of a loop with these parts
+  abbrev pub parts_value : ℕ → List Tree → Option ℕ
+  parts_value l trees = value_at w (turns l) (map (tree_value held turns) trees)
+
+  -- the recurrence of a loop with these parts, canonical trees of w bits, has the value wherever it is a number
+  abbrev pub PartsStand : ℕ → Option ℕ → List Tree → Type 0
+  PartsStand l x trees = AreTreesOf w trees × Keeps x (parts_value l trees)
+
+  -- A way to form trees gives one that stands for the value of the terms.
+  abbrev pub IsFormer : (Terms → Outcome Tree) → Type 0
+  IsFormer form = (ts : Terms) → AreCanonicalTerms w ts → Gives (Stands (terms_value held turns w ts)) (form ts)
+
+  -- ---- trees
+
+  -- a canonical tree stands for its own value
+  pub tree_stands : (tree : Tree) → IsTreeOf w tree → Stands (tree_value held turns tree) tree
+  tree_stands tree h = (h, keeps_same (tree_value held turns tree) (tree_value held turns tree) refl)
+
+  -- a tree stands for what keeps to its value
+  pub stands_kept : (x y : Option ℕ) (tree : Tree) → Keeps x y → Stands y tree → Stands x tree
+  stands_kept x y tree keeps h = (h.0, keeps_again x y (tree_value held turns tree) keeps h.1)
+
+  -- the value of a tree is below the modulus
+  pub value_below : (tree : Tree) → IsTreeOf w tree → IsBelow w (tree_value held turns tree)
+  value_below tree h = subst (λ v. IsBelow v (tree_value held turns tree)) h.0 (tree_below held turns tree)
+
+  -- its terms are canonical
+  pub terms_of_canonical : (tree : Tree) → IsTreeOf w tree → AreCanonicalTerms w (terms_of tree)
+  terms_of_canonical (polynomial v ts) h = subst (λ u. AreCanonicalTerms u ts) h.0 h.1
+
+  -- and have its value
+  pub terms_of_value : (tree : Tree) → IsTreeOf w tree
+      → terms_value held turns w (terms_of tree) ≡ tree_value held turns tree
+  terms_of_value (polynomial v ts) h = sym (ap (λ u. terms_value held turns u ts) h.0)
+
+  -- a constant stands for its number
+  pub constant_stands : (n : ℕ) → Stands (Some (n % 2 ^ w)) (constant w n)
+  constant_stands n =
+      let below : n % 2 ^ w < 2 ^ w = mod_below n (2 ^ w) (pow_pos w) in
+      cond_both (n % 2 ^ w == 0) (polynomial w no_terms) (polynomial w (term no_factors (n % 2 ^ w) no_terms))
+      (Stands (Some (n % 2 ^ w)))
+      (λ none. ((refl, tt), keeps_same _ _ (ap Some (eqb-true (n % 2 ^ w) 0 none))))
+      (λ some.
+      let ne = eqb-false (n % 2 ^ w) 0 some in
+      let once = one_times w (Some (n % 2 ^ w)) below in (
+        (refl, (tt, tt, omega arith, below, tt, tt)),
+        keeps_same _ _ (sym (ap (λ x. sum w x (Some 0)) once ∙ plus_zero w (Some (n % 2 ^ w)) below)),
+      ))
+
+  -- the constant 0
+  pub zero_stands : Stands (Some 0) (constant w 0)
+  zero_stands = subst (λ n. Stands (Some n) (constant w 0)) (mod-eq_of_lt (pow_pos w)) (constant_stands 0)
+
+  -- ---- parts
+
+  -- canonical trees stand for their own values
+  pub all_stand : (trees : List Tree) → AreTreesOf w trees → AllStand (map (tree_value held turns) trees) trees
+  all_stand [] h = tt
+  all_stand (tree ∷ trees) h = (tree_stands tree h.0, all_stand trees h.1)
+
+  -- trees that stand for values are canonical
+  pub all_trees : (xs : List (Option ℕ)) (trees : List Tree) → AllStand xs trees → AreTreesOf w trees
+  all_trees [] [] h = tt
+  all_trees [] (tree ∷ trees) h = absurd h
+  all_trees (x ∷ xs) [] h = absurd h
+  all_trees (x ∷ xs) (tree ∷ trees) h = (h.0.0, all_trees xs trees h.1)
+
+  -- their values are below the modulus
+  pub values_below : (trees : List Tree) → AreTreesOf w trees
+      → Each (IsBelow w) (map (tree_value held turns) trees)
+  values_below [] h = tt
+  values_below (tree ∷ trees) h = (value_below tree h.0, values_below trees h.1)
+
+  -- so is that of the recurrence
+  pub parts_below : (l : ℕ) (trees : List Tree) → AreTreesOf w trees → IsBelow w (parts_value l trees)
+  parts_below l [] h = tt
+  parts_below l (tree ∷ trees) h =
+      value_closed (number_semiring w) (turns l) (tree_value held turns tree) (map (tree_value held turns) trees)
+      (value_below tree h.0) (values_below trees h.1)
+
+  -- parts stand for their own value
+  pub parts_stand : (l : ℕ) (trees : List Tree) → AreTreesOf w trees → PartsStand l (parts_value l trees) trees
+  parts_stand l trees h = (h, keeps_same (parts_value l trees) (parts_value l trees) refl)
+
+  -- and for what keeps to it
+  pub parts_stand_kept : (l : ℕ) (x y : Option ℕ) (trees : List Tree)
+      → Keeps x y
+      → PartsStand l y trees
+      → PartsStand l x trees
+  parts_stand_kept l x y trees keeps h = (h.0, keeps_again x y (parts_value l trees) keeps h.1)
+
+  -- one part is its own value
+  pub lone_part_value : (l : ℕ) (tree : Tree) → parts_value l (tree ∷ []) ≡ tree_value held turns tree
+  lone_part_value l tree = value_of_single (number_semiring w) (turns l) (tree_value held turns tree)
+
+  -- ---- atoms of recurrences
+
+  -- the values of the parts of an atom
+  pub values_of_parts : (parts : Parts)
+      → values (parts_values held turns parts) ≡ map (tree_value held turns) (trees_of parts)
+  values_of_parts no_parts = refl
+  values_of_parts (part tree parts) = ap (λ xs. tree_value held turns tree ∷ xs) (values_of_parts parts)
+
+  -- and of an atom that is made of trees
+  values_of_trees : (trees : List Tree)
+      → values (parts_values held turns (parts_of trees)) ≡ map (tree_value held turns) trees
+  values_of_trees [] = refl
+  values_of_trees (tree ∷ trees) = ap (λ xs. tree_value held turns tree ∷ xs) (values_of_trees trees)
+
+  -- the recurrence of a loop with two parts and more
+  abbrev pub rec_atom : ℕ → Tree → Tree → List Tree → Atom
+  rec_atom l first second trees = atom (kind.Rec (record { 0 = l })) w (parts_of (first ∷ second ∷ trees))
+
+  -- the value of the atom
+  pub rec_atom_value : (l : ℕ) (first second : Tree) (trees : List Tree)
+      → atom_value held turns (rec_atom l first second trees) ≡ parts_value l (first ∷ second ∷ trees)
+  rec_atom_value l first second trees =
+      ap (iterated (sum w) (turns l) (tree_value held turns first)) (values_of_trees (second ∷ trees))
+
+  -- trees of w bits are parts of that width
+  trees_have_width : (trees : List Tree) → AreTreesOf w trees → HaveWidth w (parts_of trees)
+  trees_have_width [] h = tt
+  trees_have_width (tree ∷ trees) h = (h.0.0, trees_have_width trees h.1)
+
+  -- and canonical parts
+  trees_are_canonical : (trees : List Tree) → AreTreesOf w trees → AreCanonicalParts (parts_of trees)
+  trees_are_canonical [] h = tt
+  trees_are_canonical (tree ∷ trees) h = (h.0.1, trees_are_canonical trees h.1)
+
+  -- the atom is canonical where its parts are
+  pub rec_atom_canonical : (l : ℕ) (first second : Tree) (trees : List Tree)
+      → AreTreesOf w (first ∷ second ∷ trees)
+      → IsCanonicalAtom w (rec_atom l first second trees)
+  rec_atom_canonical l first second trees h = (
+    refl,
+    (omega arith, trees_have_width (first ∷ second ∷ trees) h),
+    trees_are_canonical (first ∷ second ∷ trees) h,
+  )
+
+  -- the coefficient 1 of an atom doesn't count
+  pub atom_once : (x : Option ℕ) → IsBelow w x → product w (product w x (Some 1)) (Some 1) ≡ x
+  atom_once x below = times_one w (product w x (Some 1)) (product_closed w x (Some 1)) ∙ times_one w x below
+
+  -- the tree of a recurrence stands for what its parts do
+  pub recurrence_stands : (l : ℕ) (x : Option ℕ) (trees : List Tree)
+      → 0 < w
+      → PartsStand l x trees
+      → Stands x (recurrence w l trees)
+  recurrence_stands l x [] some h =
+      stands_kept x (Some 0) (constant w 0) (keeps_again x None (Some 0) h.1 (keeps_none (Some 0))) zero_stands
+  recurrence_stands l x (first ∷ []) some h =
+      (h.0.0, λ n e. sym (lone_part_value l first) ∙ h.1 n e)
+  recurrence_stands l x (first ∷ second ∷ trees) some h =
+      let value = parts_value l (first ∷ second ∷ trees) in
+      let made = atom_value held turns (rec_atom l first second trees) in
+      let below = parts_below l (first ∷ second ∷ trees) h.0 in
+      let same : sum w (product w (product w made (Some 1)) (Some 1)) (Some 0) ≡ value =
+      ap (λ y. sum w (product w (product w y (Some 1)) (Some 1)) (Some 0)) (rec_atom_value l first second trees)
+      ∙ ap (λ y. sum w y (Some 0)) (atom_once value below) ∙ plus_zero w value below in (
+        (
+          refl,
+          (
+            (tt, tt),
+            (rec_atom_canonical l first second trees h.0, tt),
+            omega arith,
+            pow_below 0 w some,
+            tt,
+            tt,
+          ),
+        ),
+        λ n e. same ∙ h.1 n e,
+      )
