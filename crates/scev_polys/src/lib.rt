@@ -2,11 +2,13 @@
 #![tactic(auto)]
 
 mod constants;
-mod product;
-mod sum;
+mod monomial;
+mod products;
+mod sums;
+mod terms;
 mod wide;
 
 pub use constants::{of_atom, of_number};
-pub use product::product;
-pub use sum::sum;
+pub use products::product;
+pub use sums::sum;
 pub use wide::are_wide;

@@ -3,11 +3,13 @@
 #![tactic(auto)]
 
 mod atoms;
+mod kinds;
 mod loops;
-mod moves;
+mod nodes;
 mod order;
+mod variance;
 
 pub use atoms::{alone, number_of};
 pub use loops::{deepest, stands_in};
-pub use moves::moves;
 pub use order::{compare, compare_monomials};
+pub use variance::moves;

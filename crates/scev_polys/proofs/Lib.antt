@@ -1,0 +1,9 @@
+pub mod Merges
+pub mod Coefficients
+pub mod FactorMerges
+pub mod ProductOrder
+pub mod Rows
+pub mod AtPlaces
+pub mod Turns
+pub mod Joinings
+pub mod Halves

@@ -1,0 +1,10 @@
+pub mod Lists
+pub mod Below
+pub mod Places
+pub mod Among
+pub mod Constants
+pub mod Nests
+pub mod CodeOrder
+pub mod TreeCodes
+pub mod Walking
+pub mod Compared
