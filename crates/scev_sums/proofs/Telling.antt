@@ -1,11 +1,15 @@
 -- How answers of calls one after another tell what is formed of all.
-use Rattle.std.proofs.Common.{◌≡◌, Option, Ok, Err, refl, sym, ap, ◌∙◌, subst}
+use Rattle.std.proofs.Common.{◌≡◌, Some, None, Ok, Err, refl, sym, ap, subst}
 use Rattle.std.specs.declared.result.Result.{Result}
 use Rattle.scev_arena.specs.declared.limit.Limit.TheVariants as limit
 use Rattle.scev_forms.specs.Outcome.{Outcome, Done, Refused, next}
 use Rattle.scev_sums.specs.declared.error.FoldError.{FoldError}
 use Rattle.scev_sums.specs.declared.error.FoldError.TheVariants.{TooWide, TooHigh, TooDeep, OutOfMemory}
-use Rattle.scev_sums.specs.Answers.{Tells}
+use Rattle.scev_tree.specs.Tree.{Tree}
+use Rattle.scev_arena.specs.declared.limit.Limit.{Limit}
+use Rattle.scev_arena.specs.Limits.{first_limit}
+use Rattle.scev_forms.specs.Outcome.{unless, tested}
+use Rattle.scev_sums.specs.Answers.{Tells, error_of}
 
 -- what is answered is what is formed next, of what was formed first
 pub told_next : {A B C D : Type 0} (First : A → B → Type 0) (Then : C → D → Type 0) (outcome : Outcome B)
@@ -43,3 +47,25 @@ told_more Is Becomes outcome (Err TooWide) more told = told
 told_more Is Becomes outcome (Err TooHigh) more told = told
 told_more Is Becomes outcome (Err TooDeep) more told = told
 told_more Is Becomes outcome (Err OutOfMemory) more told = tt
+
+-- ---- a tree that is looked at
+
+refused_by : {A B : Type 0} (Is : A → B → Type 0) (why : Limit) → Tells Is (Refused why) (Err (error_of why))
+refused_by Is limit.TooWide = refl
+refused_by Is limit.TooHigh = refl
+refused_by Is limit.TooDeep = refl
+
+-- it is within all limits
+pub told_within : {A : Type 0} (Is : A → Tree → Type 0) (a : A) (tree : Tree)
+    → first_limit tree ≡ None
+    → Is a tree
+    → Tells Is (tested tree) (Ok a)
+unfolding tested
+told_within Is a tree e is = (tree, ap (λ o. unless o tree) e, is)
+
+-- it is above one
+pub told_above : {A : Type 0} (Is : A → Tree → Type 0) (why : Limit) (tree : Tree)
+    → first_limit tree ≡ Some why
+    → Tells Is (tested tree) (Err (error_of why))
+unfolding tested
+told_above Is why tree e = subst (λ o. Tells Is (unless o tree) (Err (error_of why))) (sym e) (refused_by Is why)

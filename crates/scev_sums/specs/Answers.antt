@@ -3,6 +3,7 @@ use Rattle.std.specs.Prelude.{◌≡◌, ℕ, List, [], ◌∷◌, ◌++◌, map
 use Rattle.std.specs.declared.result.Result.{Result}
 use Rattle.scev_base.specs.declared.ids.ExprId.{ExprId}
 use Rattle.scev_tree.specs.Tree.{Tree, width_of}
+use Rattle.scev_arena.specs.declared.limit.Limit.{Limit}
 use Rattle.scev_arena.specs.declared.limit.Limit.TheVariants as limit
 use Rattle.scev_arena.specs.declared.node.Node.{Node}
 use Rattle.scev_arena.specs.Meaning.{tree_of}
@@ -39,6 +40,12 @@ trees_at nodes ids = map (tree_of nodes) ids
 abbrev pub AreAll : {A : Type 0} → (A → Type 0) → List A → Type 0
 AreAll Is [] = Unit {0}
 AreAll Is (x ∷ xs) = Is x × AreAll Is xs
+
+-- the error that says that a limit was met
+abbrev pub error_of : Limit → FoldError
+error_of limit.TooWide = TooWide
+error_of limit.TooHigh = TooHigh
+error_of limit.TooDeep = TooDeep
 
 -- What is answered is what is formed, where it stands for that, or the limit that is met; it may also be that no memory is
 -- found.
