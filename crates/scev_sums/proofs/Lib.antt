@@ -1,3 +1,5 @@
 pub mod Growth
 pub mod Telling
 pub mod Interned
+pub mod Wide
+pub mod Trimming
