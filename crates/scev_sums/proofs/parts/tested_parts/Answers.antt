@@ -16,6 +16,8 @@ returns-clause-parts c =
     c.in_ok-id.ensures.tree.1 ∙ ap (λ xs. sums.recurrence w c.args.l.0 (trees_at old xs)) c.deref.ensures.value in (
       trees,
       ap (λ o. next o (λ tree. Done trees)) (ap tested (sym is) ∙ c.in_ok-tested.ensures.1),
-      (trees_go_on old new c.in_ok-id.ensures.grows w c.args.parts.items c.requires,
-      same_trees_go_on old new c.in_ok-id.ensures.grows w c.args.parts.items c.requires),
+      (
+        trees_go_on old new c.in_ok-id.ensures.grows w c.args.parts.items c.requires,
+        same_trees_go_on old new c.in_ok-id.ensures.grows w c.args.parts.items c.requires,
+      ),
     )
