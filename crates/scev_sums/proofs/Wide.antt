@@ -1,5 +1,5 @@
 -- Places of trees of one width, as parts of an atom.
-use Rattle.std.proofs.Common.{◌≡◌, ℕ, suc, List, [], ◌∷◌, length, map, refl, ap}
+use Rattle.std.proofs.Common.{◌≡◌, ℕ, suc, List, [], ◌∷◌, ◌++◌, length, map, refl, ap}
 use Rattle.scev_base.specs.declared.ids.ExprId.{ExprId}
 use Rattle.scev_tree.specs.Tree.{parts_of}
 use Rattle.scev_tree.specs.Order.{count_parts}
@@ -22,3 +22,13 @@ module _ (nodes : List Node) (w : ℕ) where
 pub count_at : (nodes : List Node) (ids : List ExprId) → count_parts (parts_of (map (tree_of nodes) ids)) ≡ length ids
 count_at nodes [] = refl
 count_at nodes (id ∷ ids) = ap suc (count_at nodes ids)
+
+module _ (nodes : List Node) (w : ℕ) where
+  -- what is at the end of such places, and those before it
+  pub first_wide : (xs ys : List ExprId) → AreTreesOfAt nodes w (xs ++ ys) → AreTreesOfAt nodes w xs
+  first_wide [] ys h = tt
+  first_wide (x ∷ xs) ys h = (h.0, first_wide xs ys h.1)
+
+  pub later_wide : (xs ys : List ExprId) → AreTreesOfAt nodes w (xs ++ ys) → AreTreesOfAt nodes w ys
+  later_wide [] ys h = h
+  later_wide (x ∷ xs) ys h = later_wide xs ys h.1
