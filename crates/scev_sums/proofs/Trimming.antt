@@ -39,7 +39,12 @@ pub ends_of : {A : Type 0} (xs : List A) → 1 < length xs → HasEnds xs
 ends_of [] h = absurd (omega arith)
 ends_of (x ∷ []) h = absurd (omega arith)
 ends_of (x ∷ y ∷ []) h = record {
-  first = x; between = []; last = y; whole = refl; front = refl; at_end = λ d. refl;
+  first = x;
+  between = [];
+  last = y;
+  whole = refl;
+  front = refl;
+  at_end = λ d. refl;
 }
 ends_of (x ∷ y ∷ z ∷ zs) h =
     let rest = ends_of (y ∷ z ∷ zs) (omega arith) in

@@ -71,7 +71,7 @@ returns-else-is_zero-clause-parts c =
     ap (λ id. gather.is_zero (tree id)) (sym (last_is at)) ∙ sym c.is_zero.ensures ∙ c.if-is_zero.false in (
       c.loop-parts.invariant.trees,
       trees_are at
-      ∙ sym (trimmed_kept (tree e.first) (trees_at c.args.arena.now e.between) (tree e.last) some)
-      ∙ ap gather.trimmed (sym (trees_are at))
-      ∙ c.loop-parts.invariant.same,
+          ∙ sym (trimmed_kept (tree e.first) (trees_at c.args.arena.now e.between) (tree e.last) some)
+          ∙ ap gather.trimmed (sym (trees_are at))
+          ∙ c.loop-parts.invariant.same,
     )
