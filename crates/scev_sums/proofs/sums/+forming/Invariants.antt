@@ -1,0 +1,102 @@
+use Rattle.std.proofs.Common.{◌≡◌, suc, ◌+◌, ◌-◌, ◌*◌, ◌≤◌, length, map, drop}
+use Rattle.rec_algebra.specs.Plans.{NamesEarlier}
+use Rattle.scev_arena.specs.Meaning.{meanings, terms_at}
+use Rattle.scev_forms.specs.Sums as forms
+use Rattle.scev_polys.specs.Polynomials.{IsPolynomial}
+use Rattle.scev_sums.specs.Answers.{GoesOn, AreAll, AreTreesOfAt, trees_at}
+use Rattle.scev_sums.specs.Levels.{former, IsRecurrence}
+use Rattle.scev_sums.proofs.sums.+forming.Given as goal
+
+-- A call at the level below begins at the highest rank again; all others go to a lower rank at the same level.
+abbrev pub decreases-formed : goal.decreases-formed
+decreases-formed l = 16 * l.at.loops
+
+abbrev pub decreases-formed_within : goal.decreases-formed_within
+decreases-formed_within l = 16 * l.at.loops + 1
+
+abbrev pub decreases-sum_by : goal.decreases-sum_by
+decreases-sum_by l = 16 * l.at.loops + 2
+
+abbrev pub decreases-product_by : goal.decreases-product_by
+decreases-product_by l = 16 * l.at.loops + 2
+
+abbrev pub decreases-stepped : goal.decreases-stepped
+decreases-stepped l = 16 * l.at.loops + 3
+
+abbrev pub decreases-places_of : goal.decreases-places_of
+decreases-places_of l = 16 * l.at.loops + 4
+
+abbrev pub decreases-carried : goal.decreases-carried
+decreases-carried l = 16 * l.at.loops + 5
+
+abbrev pub decreases-parts_sum : goal.decreases-parts_sum
+decreases-parts_sum l = 16 * l.at.loops + 6
+
+abbrev pub decreases-parts_multiple : goal.decreases-parts_multiple
+decreases-parts_multiple l = 16 * l.at.loops + 6
+
+abbrev pub decreases-parts_times : goal.decreases-parts_times
+decreases-parts_times l = 16 * l.at.loops + 7
+
+abbrev pub decreases-parts_with : goal.decreases-parts_with
+decreases-parts_with l = 16 * l.at.loops + 8
+
+abbrev pub decreases-monomial_parts : goal.decreases-monomial_parts
+decreases-monomial_parts l = 16 * l.at.loops + 9
+
+abbrev pub decreases-group_parts : goal.decreases-group_parts
+decreases-group_parts l = 16 * l.at.loops + 10
+
+abbrev pub decreases-gather_once : goal.decreases-gather_once
+decreases-gather_once l = 16 * l.at.loops + 11
+
+abbrev pub decreases-gathered : goal.decreases-gathered
+decreases-gathered l = 16 * l.at.loops + 12
+
+-- What is still to be done of what is there gives the same as the whole.
+abbrev pub invariant-places_of-loop-step : goal.invariant-places_of-loop-step
+invariant-places_of-loop-step l =
+    let form = former l.nest l.at in
+    let w = l.at.width.bits in record {
+      grows : GoesOn l.fn.arena l.arena;
+      trees : AreTreesOfAt l.arena w l.places.items;
+      count : length l.places.items ≡ length l.fn.operands.items + l.step-index;
+      earlier : NamesEarlier (length l.places.items) (drop l.step-index l.steps);
+      same : forms.places_by form w (drop l.step-index l.steps) (trees_at l.arena l.places.items)
+      ≡ forms.places_by form w l.steps (trees_at l.fn.arena l.fn.operands.items);
+    }
+
+abbrev pub invariant-parts_times-loop-rec : goal.invariant-parts_times-loop-rec
+invariant-parts_times-loop-rec l =
+    let form = former l.nest l.at in
+    let w = l.at.width.bits in record {
+      grows : GoesOn l.fn.arena l.arena;
+      trees : AreTreesOfAt l.arena w l.parts.items;
+      some : 1 ≤ length l.parts.items;
+      recs : AreAll (IsRecurrence l.fn.arena w) (drop l.rec-index l.recs);
+      same : forms.parts_times form w l.l.0 (trees_at l.arena l.parts.items)
+      (map (trees_at l.fn.arena) (drop l.rec-index l.recs))
+      ≡ forms.parts_times form w l.l.0 (trees_at l.fn.arena l.fn.first) (map (trees_at l.fn.arena) l.recs);
+    }
+
+abbrev pub invariant-group_parts-loop-term : goal.invariant-group_parts-loop-term
+invariant-group_parts-loop-term l =
+    let form = former l.nest l.at in
+    let w = l.at.width.bits in record {
+      grows : GoesOn l.fn.arena l.arena;
+      trees : AreTreesOfAt l.arena w l.parts.items;
+      left : IsPolynomial l.fn.arena w (drop l.term-index l.others);
+      same : forms.parts_plus form w l.l.0 (trees_at l.arena l.parts.items)
+      (terms_at (meanings l.fn.arena) (drop l.term-index l.others))
+      ≡ forms.group_parts form w l.l.0 (terms_at (meanings l.fn.arena) l.fn.group);
+    }
+
+abbrev pub invariant-gathered-loop : goal.invariant-gathered-loop
+invariant-gathered-loop l =
+    let form = former l.nest l.at in
+    let w = l.at.width.bits in record {
+      grows : GoesOn l.fn.arena l.arena;
+      left : IsPolynomial l.arena w l.terms;
+      same : forms.gathered form l.nest w (l.end - l.counter) (terms_at (meanings l.arena) l.terms)
+      ≡ forms.gathered form l.nest w (suc (length l.nest)) (terms_at (meanings l.fn.arena) l.fn.terms);
+    }
