@@ -63,7 +63,7 @@ invariant-places_of-loop-step l =
       count : length l.places.items ≡ length l.fn.operands.items + l.step-index;
       earlier : NamesEarlier (length l.places.items) (drop l.step-index l.steps);
       same : forms.places_by form w (drop l.step-index l.steps) (trees_at l.arena l.places.items)
-      ≡ forms.places_by form w l.steps (trees_at l.fn.arena l.fn.operands.items);
+          ≡ forms.places_by form w l.steps (trees_at l.fn.arena l.fn.operands.items);
     }
 
 abbrev pub invariant-parts_times-loop-rec : goal.invariant-parts_times-loop-rec
@@ -75,8 +75,8 @@ invariant-parts_times-loop-rec l =
       some : 1 ≤ length l.parts.items;
       recs : AreAll (IsRecurrence l.fn.arena w) (drop l.rec-index l.recs);
       same : forms.parts_times form w l.l.0 (trees_at l.arena l.parts.items)
-      (map (trees_at l.fn.arena) (drop l.rec-index l.recs))
-      ≡ forms.parts_times form w l.l.0 (trees_at l.fn.arena l.fn.first) (map (trees_at l.fn.arena) l.recs);
+          (map (trees_at l.fn.arena) (drop l.rec-index l.recs))
+          ≡ forms.parts_times form w l.l.0 (trees_at l.fn.arena l.fn.first) (map (trees_at l.fn.arena) l.recs);
     }
 
 abbrev pub invariant-group_parts-loop-term : goal.invariant-group_parts-loop-term
@@ -87,8 +87,8 @@ invariant-group_parts-loop-term l =
       trees : AreTreesOfAt l.arena w l.parts.items;
       left : IsPolynomial l.fn.arena w (drop l.term-index l.others);
       same : forms.parts_plus form w l.l.0 (trees_at l.arena l.parts.items)
-      (terms_at (meanings l.fn.arena) (drop l.term-index l.others))
-      ≡ forms.group_parts form w l.l.0 (terms_at (meanings l.fn.arena) l.fn.group);
+          (terms_at (meanings l.fn.arena) (drop l.term-index l.others))
+          ≡ forms.group_parts form w l.l.0 (terms_at (meanings l.fn.arena) l.fn.group);
     }
 
 abbrev pub invariant-gathered-loop : goal.invariant-gathered-loop
@@ -98,5 +98,5 @@ invariant-gathered-loop l =
       grows : GoesOn l.fn.arena l.arena;
       left : IsPolynomial l.arena w l.terms;
       same : forms.gathered form l.nest w (l.end - l.counter) (terms_at (meanings l.arena) l.terms)
-      ≡ forms.gathered form l.nest w (suc (length l.nest)) (terms_at (meanings l.fn.arena) l.fn.terms);
+          ≡ forms.gathered form l.nest w (suc (length l.nest)) (terms_at (meanings l.fn.arena) l.fn.terms);
     }
