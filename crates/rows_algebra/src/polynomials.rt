@@ -2,7 +2,7 @@
 
 ghost use Rattle.std.specs.Prelude.{◌≡◌, IfOk};
 
-use poly_terms::{Term, TermError, Terms, product_of, sum_of};
+use poly_terms::{TermError, Terms};
 use scev_base::{ExprId, Width};
 use std::alloc::Global;
 use std::test::Fail;
@@ -32,22 +32,15 @@ fn is_too_wide(terms: Result<Terms, TermError>) -> bool {
 
 #[test]
 fn sums_and_products(rt: HostRuntime) -> Result<(), Fail> {
-    let alloc = rt.alloc();
-    let x = Terms::atom(alloc, X, WORD)?;
-    let y = Terms::atom(alloc, Y, WORD)?;
-    let minus_one = Terms::constant(alloc, 0xFFFF_FFFF, WORD)?;
-    let three = Terms::constant(alloc, 3, WORD)?;
+    let x = Terms::atom(rt.alloc(), X, WORD)?;
+    let y = Terms::atom(rt.alloc(), Y, WORD)?;
+    let minus_one = Terms::constant(rt.alloc(), 0xFFFF_FFFF, WORD)?;
+    let three = Terms::constant(rt.alloc(), 3, WORD)?;
     // (x + y)(x - y): the middle is gone.
-    let difference = x.add(alloc, &minus_one.mul(alloc, &y)?)?;
-    let squares = x.add(alloc, &y)?.mul(alloc, &difference)?;
+    let squares = x.add(&y)?.mul(&x.add(&minus_one.mul(&y)?)?)?;
     assert!(rt; is(&squares, &[(&[X, X], 1), (&[Y, Y], 0xFFFF_FFFF)]));
     // yx + y + xx + 3 + x: those of fewer factors come first.
-    let sum = y
-        .mul(alloc, &x)?
-        .add(alloc, &y)?
-        .add(alloc, &x.mul(alloc, &x)?)?
-        .add(alloc, &three)?
-        .add(alloc, &x)?;
+    let sum = y.mul(&x)?.add(&y)?.add(&x.mul(&x)?)?.add(&three)?.add(&x)?;
     let ordered: [(&[ExprId], u64); 5] = [
         (&[], 3),
         (&[X], 1),
@@ -61,40 +54,24 @@ fn sums_and_products(rt: HostRuntime) -> Result<(), Fail> {
 
 #[test]
 fn multiples_of_256_are_gone(rt: HostRuntime) -> Result<(), Fail> {
-    let alloc = rt.alloc();
-    let sixteen = Terms::constant(alloc, 16, BYTE)?;
-    assert!(rt; is(&sixteen.mul(alloc, &sixteen)?, &[]));
-    assert!(rt; is(&Terms::constant(alloc, 256, BYTE)?, &[]));
-    let half = Terms::constant(alloc, 128, BYTE)?;
-    let some = half.mul(alloc, &Terms::atom(alloc, X, BYTE)?)?;
+    let sixteen = Terms::constant(rt.alloc(), 16, BYTE)?;
+    assert!(rt; is(&sixteen.mul(&sixteen)?, &[]));
+    assert!(rt; is(&Terms::constant(rt.alloc(), 256, BYTE)?, &[]));
+    let half = Terms::constant(rt.alloc(), 128, BYTE)?;
+    let some = half.mul(&Terms::atom(rt.alloc(), X, BYTE)?)?;
     assert!(rt; is(&some, &[(&[X], 128)]));
-    assert!(rt; is(&some.add(alloc, &some)?, &[]));
-    Ok(())
-}
-
-/// Pairs that are moved out of a polynomial and back, and sums and products of them by reference.
-#[test]
-fn pairs_alone(rt: HostRuntime) -> Result<(), Fail> {
-    let alloc = rt.alloc();
-    let x = Terms::atom(alloc, X, WORD)?.into_pairs();
-    let y = Terms::atom(alloc, Y, WORD)?;
-    let sum = sum_of(alloc, WORD, x.as_slice(), y.pairs())?;
-    assert!(rt; is(&sum, &[(&[X], 1), (&[Y], 1)]));
-    let product = product_of(alloc, WORD, x.as_slice(), sum.pairs())?;
-    assert!(rt; is(&product, &[(&[X, X], 1), (&[X, Y], 1)]));
-    let moved = Terms::from_pairs(WORD, x);
-    assert_eq!(rt; moved.pairs(), [Term::copied(alloc, &[X], 1)?].as_slice());
+    assert!(rt; is(&some.add(&some)?, &[]));
     Ok(())
 }
 
 /// The sum of so many atoms, from this number on.
-fn sum_of_atoms(alloc: Global, first: u64, count: u8) -> Result<Terms, TermError>
+fn sum_of(alloc: Global, first: u64, count: u8) -> Result<Terms, TermError>
     ensures { IfOk result (λ sum. sum.bits ≡ 32) }
 {
     let mut sum = Terms::constant(alloc, 0, WORD)?;
     for i in 0..count {
         let atom = Terms::atom(alloc, ExprId(first.wrapping_add(u64::from(i))), WORD)?;
-        sum = sum.add(alloc, &atom)?;
+        sum = sum.add(&atom)?;
     }
     Ok(sum)
 }
@@ -102,19 +79,15 @@ fn sum_of_atoms(alloc: Global, first: u64, count: u8) -> Result<Terms, TermError
 /// At most 32 monomials.
 #[test]
 fn number_of_monomials(rt: HostRuntime) -> Result<(), Fail> {
-    let alloc = rt.alloc();
-    let six = sum_of_atoms(alloc, 10, 6)?;
-    let thirty = sum_of_atoms(alloc, 0, 5)?.mul(alloc, &six)?;
+    let six = sum_of(rt.alloc(), 10, 6)?;
+    let thirty = sum_of(rt.alloc(), 0, 5)?.mul(&six)?;
     assert_eq!(rt; thirty.get(29), Some((&[ExprId(4), ExprId(15)][..], 1)));
     assert!(rt; thirty.get(30).is_none());
-    assert!(rt; is_too_wide(sum_of_atoms(alloc, 0, 6)?.mul(alloc, &six)));
-    let most = sum_of_atoms(alloc, 0, 32)?;
+    assert!(rt; is_too_wide(sum_of(rt.alloc(), 0, 6)?.mul(&six)));
+    let most = sum_of(rt.alloc(), 0, 32)?;
     assert_eq!(rt; most.get(31), Some((&[ExprId(31)][..], 1)));
-    assert!(rt; is_too_wide(most.add(alloc, &Terms::constant(alloc, 1, WORD)?)));
-    assert_eq!(rt;
-        most.add(alloc, &most)?.get(31),
-        Some((&[ExprId(31)][..], 2))
-    );
+    assert!(rt; is_too_wide(most.add(&Terms::constant(rt.alloc(), 1, WORD)?)));
+    assert_eq!(rt; most.add(&most)?.get(31), Some((&[ExprId(31)][..], 2)));
     Ok(())
 }
 
@@ -124,7 +97,7 @@ fn power(alloc: Global, id: ExprId, exponent: u8) -> Result<Terms, TermError>
 {
     let mut power = Terms::constant(alloc, 1, WORD)?;
     for _i in 0..exponent {
-        power = power.mul(alloc, &Terms::atom(alloc, id, WORD)?)?;
+        power = power.mul(&Terms::atom(alloc, id, WORD)?)?;
     }
     Ok(power)
 }
@@ -132,10 +105,9 @@ fn power(alloc: Global, id: ExprId, exponent: u8) -> Result<Terms, TermError>
 /// At most 32 factors of each.
 #[test]
 fn number_of_factors(rt: HostRuntime) -> Result<(), Fail> {
-    let alloc = rt.alloc();
-    let most = power(alloc, X, 32)?;
+    let most = power(rt.alloc(), X, 32)?;
     assert!(rt; is(&most, &[(&[X; 32], 1)]));
-    assert!(rt; is_too_wide(most.mul(alloc, &Terms::atom(alloc, X, WORD)?)));
-    assert!(rt; is(&most.mul(alloc, &Terms::constant(alloc, 0, WORD)?)?, &[]));
+    assert!(rt; is_too_wide(most.mul(&Terms::atom(rt.alloc(), X, WORD)?)));
+    assert!(rt; is(&most.mul(&Terms::constant(rt.alloc(), 0, WORD)?)?, &[]));
     Ok(())
 }
