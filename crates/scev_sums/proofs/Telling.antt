@@ -1,10 +1,12 @@
 -- How answers of calls one after another tell what is formed of all.
-use Rattle.std.proofs.Common.{◌≡◌, Option, Ok, Err, refl, sym, ap, ◌∙◌, subst}
+use Rattle.std.proofs.Common.{◌≡◌, Ok, Err, sym, ap, subst}
 use Rattle.std.specs.declared.result.Result.{Result}
+use Rattle.scev_arena.specs.declared.limit.Limit.{Limit}
 use Rattle.scev_arena.specs.declared.limit.Limit.TheVariants as limit
-use Rattle.scev_forms.specs.Outcome.{Outcome, Done, Refused, next}
+use Rattle.scev_forms.specs.Outcome.{Outcome, Refused, next}
 use Rattle.scev_sums.specs.declared.error.FoldError.{FoldError}
 use Rattle.scev_sums.specs.declared.error.FoldError.TheVariants.{TooWide, TooHigh, TooDeep, OutOfMemory}
+use Rattle.scev_sums.specs.Errors.{error_of}
 use Rattle.scev_sums.specs.Answers.{Tells}
 
 -- what is answered is what is formed next, of what was formed first
@@ -43,3 +45,11 @@ told_more Is Becomes outcome (Err TooWide) more told = told
 told_more Is Becomes outcome (Err TooHigh) more told = told
 told_more Is Becomes outcome (Err TooDeep) more told = told
 told_more Is Becomes outcome (Err OutOfMemory) more told = tt
+
+-- the error of a limit tells a refusal by it
+pub told_limit : {A B : Type 0} (Is : A → B → Type 0) (outcome : Outcome B) (why : Limit)
+    → outcome ≡ Refused why
+    → Tells Is outcome (Err (error_of why))
+told_limit Is outcome limit.TooWide refused = refused
+told_limit Is outcome limit.TooHigh refused = refused
+told_limit Is outcome limit.TooDeep refused = refused

@@ -2,6 +2,7 @@
 
 ghost use Rattle.std.specs.Prelude.{◌≡◌};
 ghost use Rattle.scev_sums.specs.declared.error.FoldError.TheVariants.{OutOfMemory};
+ghost use Rattle.scev_sums.specs.Errors.{error_of};
 
 use scev_arena::Limit;
 use std::alloc::AllocError;
@@ -21,7 +22,9 @@ pub enum FoldError {
 
 impl FoldError {
     /// The error that says that this limit was met.
-    pub(crate) fn of_limit(limit: Limit) -> FoldError {
+    pub(crate) fn of_limit(limit: Limit) -> FoldError
+        ensures { result ≡ error_of limit }
+    {
         match limit {
             Limit::TooWide => FoldError::TooWide,
             Limit::TooHigh => FoldError::TooHigh,
