@@ -7,7 +7,8 @@ ghost use Rattle.scev_sums.specs.Errors.{error_of};
 use scev_arena::Limit;
 use std::alloc::AllocError;
 
-/// Why an expression isn't formed. The limits are those of `scev_base::limits`; the first tree that is above one decides.
+/// Why an expression isn't formed. The limits are those of `scev_base::limits`; the first tree that is above one
+/// decides.
 #[derive(Clone, Copy, Debug, PartialEq, Eq)]
 pub enum FoldError {
     /// A polynomial has more than `MONOMIALS` monomials, or one of more than `FACTORS` factors.
