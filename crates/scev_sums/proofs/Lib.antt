@@ -1,3 +1,4 @@
 pub mod Growth
 pub mod Telling
 pub mod Nodes
+pub mod Reading

@@ -1,5 +1,5 @@
 -- What a node says of its place: the terms of a tree, and the parts of a recurrence.
-use Rattle.std.proofs.Common.{◌≡◌, ℕ, List, Some, slice_get, refl, sym, ap, ◌∙◌, subst}
+use Rattle.std.proofs.Common.{◌≡◌, ℕ, List, Some, slice_get, sym, ap, ◌∙◌, subst}
 use Rattle.scev_base.specs.declared.ids.ExprId.{ExprId}
 use Rattle.scev_base.specs.declared.width.Width.{Width}
 use Rattle.scev_tree.specs.Tree.{width_of, polynomial}

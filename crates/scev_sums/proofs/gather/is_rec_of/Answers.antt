@@ -1,14 +1,17 @@
-use Rattle.std.proofs.Common.{◌≡◌, sym, ap, ◌∙◌}
+use Rattle.std.proofs.Common.{rules}
+use Rattle.scev_walk.proofs.Places.{atom_is}
 use Rattle.scev_sums.proofs.gather.is_rec_of.Goals as goal
 
 pub returns-in-Atom-Rec-default-default : goal.returns-in-Atom-Rec-default-default
 returns-in-Atom-Rec-default-default c =
-    let e = c.eq.ensures in
-    let k = c.in-Atom-Rec-default-default.kind-is in
-    let o = c.in-Atom-Rec-default-default.other-is in
-    let i = c.in-Atom-Rec-default-default.is in
-    ?
+    let arm = c.in-Atom-Rec-default-default in
+    let is = atom_is c.args.arena.now c.args.id c.node.result.now c.node.ensures.arena c.node.ensures.node arm.kind
+    arm.width arm.parts arm.is in
+    rw is (search rules)
 
 pub returns-in_default : goal.returns-in_default
 returns-in_default c =
-    let e = c.in_default.is in ?
+    let arm = c.in_default in
+    let is = atom_is c.args.arena.now c.args.id c.node.result.now c.node.ensures.arena c.node.ensures.node arm.field-0
+    arm.field-1 arm.field-2 arm.is in
+    rw is (search rules)
