@@ -1,8 +1,16 @@
--- Lists of places and of terms, read one after another.
-use Rattle.std.proofs.Common.{◌≡◌, ℕ, ◌<◌, List, length, get_or, refl}
+-- Lists of places and of terms, read one after another: what is found so far, and then what is left.
+use Rattle.std.proofs.Common.{◌≡◌, ℕ, ◌+◌, ◌<◌, ◌≤◌, true, false, if◌then◌else◌, List, [], ◌∷◌, ◌++◌, length, get_or}
+use Rattle.std.proofs.Common.{drop, sym, ap, ◌∙◌, refl}
+use Rattle.std.proofs.lemmas.List.{at_drop_more, at_drop_all}
 use Rattle.scev_base.specs.declared.ids.ExprId.{ExprId}
+use Rattle.scev_tree.specs.Tree.{Terms, Factors, no_terms, term, no_factors, factor}
+use Rattle.poly_terms.specs.declared.term.Term.{Term}
 use Rattle.scev_arena.specs.declared.node.Node.{Node}
+use Rattle.scev_arena.specs.Meaning.{Meant, atom_at, factors_at, terms_at}
 use Rattle.scev_arena.specs.Standing.{IsAtomAt, AreAtoms}
+use Rattle.scev_forms.specs.Gather.{is_rec_of, joins, joining, staying, rest_of}
+use Rattle.scev_polys.proofs.Merges.{appended}
+use Rattle.scev_polys.proofs.AtPlaces.{factors_appended, appended_none, factors_none, factor_behind, term_behind}
 use Rattle.scev_walk.proofs.Among.{atom_among}
 
 -- the place that is read
@@ -12,3 +20,39 @@ id_at ids at = get_or ids at (record { 0 = 0 })
 pub one_atom : (nodes : List Node) (w : ℕ) (ids : List ExprId) (at : ℕ) → AreAtoms nodes w ids → at < length ids
     → IsAtomAt nodes w (id_at ids at)
 one_atom nodes w ids at h within = atom_among nodes w ids at (record { 0 = 0 }) (id_at ids at) h within refl
+
+-- ---- the factors that are no recurrences of a loop
+
+module _ (meant : List Meant) (l : ℕ) where
+  -- the rest that is found so far, and then that of what is left
+  abbrev pub rest_with : List ExprId → List ExprId → Factors
+  rest_with found left = factors_appended (factors_at meant found) (rest_of l (factors_at meant left))
+
+  pub rest_more : (found ids : List ExprId) (at : ℕ)
+      → at < length ids
+      → is_rec_of l (atom_at meant (id_at ids at)) ≡ false
+      → rest_with (found ++ id_at ids at ∷ []) (drop (at + 1) ids) ≡ rest_with found (drop at ids)
+  rest_more found ids at within is =
+      let id = id_at ids at in
+      let others = rest_of l (factors_at meant (drop (at + 1) ids)) in
+      factor_behind meant found id others
+      ∙ ap (λ b. factors_appended (factors_at meant found) (if b then others else factor (atom_at meant id) others))
+      (sym is)
+      ∙ sym (at_drop_more (rest_with found) ids at (record { 0 = 0 }) within)
+
+  pub rest_without : (found ids : List ExprId) (at : ℕ)
+      → at < length ids
+      → is_rec_of l (atom_at meant (id_at ids at)) ≡ true
+      → rest_with found (drop (at + 1) ids) ≡ rest_with found (drop at ids)
+  rest_without found ids at within is =
+      let id = id_at ids at in
+      let others = rest_of l (factors_at meant (drop (at + 1) ids)) in
+      ap (λ b. factors_appended (factors_at meant found) (if b then others else factor (atom_at meant id) others))
+      (sym is)
+      ∙ sym (at_drop_more (rest_with found) ids at (record { 0 = 0 }) within)
+
+  pub rest_whole : (found ids : List ExprId) (at : ℕ)
+      → length ids ≤ at
+      → factors_at meant found ≡ rest_with found (drop at ids)
+  rest_whole found ids at past =
+      sym (at_drop_all (rest_with found) ids at past ∙ factors_none (factors_at meant found))
