@@ -1,9 +1,9 @@
 -- Lists of places and of terms, read one after another: what is found so far, and then what is left.
 use Rattle.std.proofs.Common.{◌≡◌, ℕ, ◌+◌, ◌<◌, ◌≤◌, true, false, if◌then◌else◌, List, [], ◌∷◌, ◌++◌, length, get_or}
-use Rattle.std.proofs.Common.{drop, sym, ap, ◌∙◌, refl}
+use Rattle.std.proofs.Common.{drop, Option, refl, sym, ap, ◌∙◌}
 use Rattle.std.proofs.lemmas.List.{at_drop_more, at_drop_all}
 use Rattle.scev_base.specs.declared.ids.ExprId.{ExprId}
-use Rattle.scev_tree.specs.Tree.{Terms, Factors, no_terms, term, no_factors, factor}
+use Rattle.scev_tree.specs.Tree.{Terms, Factors, term, factor}
 use Rattle.poly_terms.specs.declared.term.Term.{Term}
 use Rattle.scev_arena.specs.declared.node.Node.{Node}
 use Rattle.scev_arena.specs.Meaning.{Meant, atom_at, factors_at, terms_at}
@@ -56,3 +56,53 @@ module _ (meant : List Meant) (l : ℕ) where
       → factors_at meant found ≡ rest_with found (drop at ids)
   rest_whole found ids at past =
       sym (at_drop_all (rest_with found) ids at past ∙ factors_none (factors_at meant found))
+
+-- ---- the terms that join, and those that stay
+
+module _ (meant : List Meant) (parents : List (Option ℕ)) (l : ℕ) where
+  -- those that are found so far, and then those of what is left
+  abbrev pub joining_with : List Term → List Term → Terms
+  joining_with found left = appended (terms_at meant found) (joining parents l (terms_at meant left))
+
+  abbrev pub staying_with : List Term → List Term → Terms
+  staying_with found left = appended (terms_at meant found) (staying parents l (terms_at meant left))
+
+  module _ (found left rest : List Term) (t : Term) (e : left ≡ t ∷ rest) where
+    abbrev here : Terms → Terms
+    here others = term (factors_at meant t.ids) t.coefficient others
+
+    -- a term that joins
+    module _ (is : joins parents l (factors_at meant t.ids) ≡ true) where
+      pub joining_more : joining_with (found ++ t ∷ []) rest ≡ joining_with found left
+      joining_more =
+          let others = joining parents l (terms_at meant rest) in
+          term_behind meant found t others
+          ∙ ap (λ b. appended (terms_at meant found) (if b then here others else others)) (sym is)
+          ∙ sym (ap (joining_with found) e)
+
+      pub staying_without : staying_with found rest ≡ staying_with found left
+      staying_without =
+          let others = staying parents l (terms_at meant rest) in
+          ap (λ b. appended (terms_at meant found) (if b then others else here others)) (sym is)
+          ∙ sym (ap (staying_with found) e)
+
+    -- one that stays
+    module _ (is : joins parents l (factors_at meant t.ids) ≡ false) where
+      pub joining_without : joining_with found rest ≡ joining_with found left
+      joining_without =
+          let others = joining parents l (terms_at meant rest) in
+          ap (λ b. appended (terms_at meant found) (if b then here others else others)) (sym is)
+          ∙ sym (ap (joining_with found) e)
+
+      pub staying_more : staying_with (found ++ t ∷ []) rest ≡ staying_with found left
+      staying_more =
+          let others = staying parents l (terms_at meant rest) in
+          term_behind meant found t others
+          ∙ ap (λ b. appended (terms_at meant found) (if b then others else here others)) (sym is)
+          ∙ sym (ap (staying_with found) e)
+
+  pub joining_whole : (found left : List Term) → left ≡ [] → terms_at meant found ≡ joining_with found left
+  joining_whole found left e = sym (ap (joining_with found) e ∙ appended_none (terms_at meant found))
+
+  pub staying_whole : (found left : List Term) → left ≡ [] → terms_at meant found ≡ staying_with found left
+  staying_whole found left e = sym (ap (staying_with found) e ∙ appended_none (terms_at meant found))
