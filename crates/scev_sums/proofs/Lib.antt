@@ -1,2 +1,6 @@
+pub mod Groups
 pub mod Growth
+pub mod Placing
+pub mod Recurrences
+pub mod Refusals
 pub mod Telling

@@ -80,7 +80,7 @@ fn gathered(
         (terms_at (meanings arena.old) terms)) result }
 {
     let mut terms = terms;
-    for _ in 0..nest.loop_count() + 1 {
+    for _ in 0..=nest.loop_count() {
         match gather_once(alloc, arena, nest, at, terms.as_slice())? {
             Gathering::Unchanged => return tested_terms(arena, at.width, terms),
             Gathering::Whole(id) => {
@@ -262,8 +262,9 @@ fn parts_times(
 {
     let mut parts = Vec::from_slice(alloc, first)?;
     for rec in recs {
+        let rec = rec.as_slice();
         let plan = mul_plan(alloc, parts.len() as u64, rec.len() as u64)?;
-        parts.extend_from_slice(rec.as_slice())?;
+        parts.extend_from_slice(rec)?;
         parts = carried(alloc, arena, nest, at, l, &plan, parts)?;
     }
     Ok(parts)
