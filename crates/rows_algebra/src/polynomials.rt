@@ -30,24 +30,44 @@ fn is_too_wide(terms: Result<Terms, TermError>) -> bool {
     terms.is_err_and(|error| error == TermError::TooWide)
 }
 
+/// The difference of two polynomials modulo 2^32.
+fn difference_of(alloc: Global, left: &Terms, right: &Terms) -> Result<Terms, TermError>
+    requires left { left.now.bits ≡ 32 }
+    requires right { right.now.bits ≡ 32 }
+    ensures { IfOk result (λ difference. difference.bits ≡ 32) }
+{
+    let minus_one = Terms::constant(alloc, 0xFFFF_FFFF, WORD)?;
+    left.add(alloc, &minus_one.mul(alloc, right)?)
+}
+
+/// (x + y)(x - y): the middle is gone.
 #[test]
-fn sums_and_products(rt: HostRuntime) -> Result<(), Fail> {
+fn product_of_sum_and_difference(rt: HostRuntime) -> Result<(), Fail> {
     let alloc = rt.alloc();
     let x = Terms::atom(alloc, X, WORD)?;
     let y = Terms::atom(alloc, Y, WORD)?;
-    let minus_one = Terms::constant(alloc, 0xFFFF_FFFF, WORD)?;
-    let three = Terms::constant(alloc, 3, WORD)?;
-    // (x + y)(x - y): the middle is gone.
-    let difference = x.add(alloc, &minus_one.mul(alloc, &y)?)?;
-    let squares = x.add(alloc, &y)?.mul(alloc, &difference)?;
-    assert!(rt; is(&squares, &[(&[X, X], 1), (&[Y, Y], 0xFFFF_FFFF)]));
-    // yx + y + xx + 3 + x: those of fewer factors come first.
-    let sum = y
-        .mul(alloc, &x)?
+    let squares = x
         .add(alloc, &y)?
-        .add(alloc, &x.mul(alloc, &x)?)?
-        .add(alloc, &three)?
-        .add(alloc, &x)?;
+        .mul(alloc, &difference_of(alloc, &x, &y)?)?;
+    assert!(rt; is(&squares, &[(&[X, X], 1), (&[Y, Y], 0xFFFF_FFFF)]));
+    Ok(())
+}
+
+/// The sum of a polynomial modulo 2^32 and a number.
+fn plus(alloc: Global, terms: &Terms, n: u64) -> Result<Terms, TermError>
+    requires { terms.now.bits ≡ 32 }
+    ensures { IfOk result (λ sum. sum.bits ≡ 32) }
+{
+    terms.add(alloc, &Terms::constant(alloc, n, WORD)?)
+}
+
+/// (y + x)(x + 1) + 3: those of fewer factors come first.
+#[test]
+fn order_of_monomials(rt: HostRuntime) -> Result<(), Fail> {
+    let alloc = rt.alloc();
+    let x = Terms::atom(alloc, X, WORD)?;
+    let both = Terms::atom(alloc, Y, WORD)?.add(alloc, &x)?;
+    let product = both.mul(alloc, &plus(alloc, &x, 1)?)?;
     let ordered: [(&[ExprId], u64); 5] = [
         (&[], 3),
         (&[X], 1),
@@ -55,7 +75,7 @@ fn sums_and_products(rt: HostRuntime) -> Result<(), Fail> {
         (&[X, X], 1),
         (&[X, Y], 1),
     ];
-    assert!(rt; is(&sum, &ordered));
+    assert!(rt; is(&plus(alloc, &product, 3)?, &ordered));
     Ok(())
 }
 
