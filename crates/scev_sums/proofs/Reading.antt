@@ -1,14 +1,15 @@
 -- Lists of places and of terms, read one after another: what is found so far, and then what is left.
 use Rattle.std.proofs.Common.{◌≡◌, ℕ, ◌+◌, ◌<◌, ◌≤◌, true, false, if◌then◌else◌, List, [], ◌∷◌, ◌++◌, length, get_or}
-use Rattle.std.proofs.Common.{drop, Option, refl, sym, ap, ◌∙◌}
+use Rattle.std.proofs.Common.{drop, Option, refl, sym, ap, ◌∙◌, arith}
 use Rattle.std.proofs.lemmas.List.{at_drop_more, at_drop_all}
 use Rattle.scev_base.specs.declared.ids.ExprId.{ExprId}
-use Rattle.scev_tree.specs.Tree.{Terms, Factors, term, factor}
+use Rattle.scev_tree.specs.Tree.{Terms, Factors, no_terms, term, factor}
 use Rattle.poly_terms.specs.declared.term.Term.{Term}
 use Rattle.scev_arena.specs.declared.node.Node.{Node}
 use Rattle.scev_arena.specs.Meaning.{Meant, atom_at, factors_at, terms_at}
 use Rattle.scev_arena.specs.Standing.{IsAtomAt, AreAtoms}
 use Rattle.scev_forms.specs.Gather.{is_rec_of, joins, joining, staying, rest_of}
+use Rattle.scev_forms.specs.Sums.{is_settled}
 use Rattle.scev_polys.proofs.Merges.{appended}
 use Rattle.scev_polys.proofs.AtPlaces.{factors_appended, appended_none, factors_none, factor_behind, term_behind}
 use Rattle.scev_walk.proofs.Among.{atom_among}
@@ -106,3 +107,32 @@ module _ (meant : List Meant) (parents : List (Option ℕ)) (l : ℕ) where
 
   pub staying_whole : (found left : List Term) → left ≡ [] → terms_at meant found ≡ staying_with found left
   staying_whole found left e = sym (ap (staying_with found) e ∙ appended_none (terms_at meant found))
+
+-- ---- groups of which something is to be formed
+
+module _ (meant : List Meant) (l : ℕ) where
+  -- several terms
+  pub terms_left : (ts : List Term) → 2 ≤ length ts → false ≡ is_settled l (terms_at meant ts)
+  terms_left [] many = absurd (omega arith)
+  terms_left (t ∷ []) many = absurd (omega arith)
+  terms_left (t ∷ u ∷ ts) many = by_factors t.ids
+    where
+      by_factors : (ids : List ExprId)
+          → false ≡ is_settled l (term (factors_at meant ids) t.coefficient (terms_at meant (u ∷ ts)))
+      by_factors [] = refl
+      by_factors (id ∷ []) = refl
+      by_factors (id ∷ other ∷ ids) = refl
+
+  -- one of several factors
+  pub factors_left : (ts : List Term) (t : Term)
+      → ts ≡ t ∷ []
+      → 2 ≤ length t.ids
+      → false ≡ is_settled l (terms_at meant ts)
+  factors_left ts t e many =
+      by_factors t.ids many ∙ ap (λ us. is_settled l (terms_at meant us)) (sym e)
+    where
+      by_factors : (ids : List ExprId) → 2 ≤ length ids
+          → false ≡ is_settled l (term (factors_at meant ids) t.coefficient no_terms)
+      by_factors [] many = absurd (omega arith)
+      by_factors (id ∷ []) many = absurd (omega arith)
+      by_factors (id ∷ other ∷ ids) many = refl
