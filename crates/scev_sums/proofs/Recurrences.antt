@@ -7,7 +7,7 @@ use Rattle.scev_base.specs.declared.ids.LoopId.{LoopId}
 use Rattle.scev_base.specs.declared.width.Width.{Width}
 use Rattle.scev_tree.specs.declared.kind.Kind.{Kind}
 use Rattle.scev_tree.specs.declared.kind.Kind.TheVariants as kind
-use Rattle.scev_tree.specs.Tree.{Tree, Factors, Atom, factor, atom, parts_of, trees_of}
+use Rattle.scev_tree.specs.Tree.{Tree, Factors, Atom, Parts, factor, atom, parts_of, trees_of}
 use Rattle.scev_tree.specs.Canonical.{HaveWidth}
 use Rattle.scev_arena.specs.declared.node.Node.{Node}
 use Rattle.scev_arena.specs.declared.node.Node.TheVariants as node
@@ -15,7 +15,7 @@ use Rattle.scev_arena.specs.Meaning.{meanings, factors_at, tree_of, atom_of}
 use Rattle.scev_arena.specs.Standing.{HoldsAtom, IsAtomAt, AreTrees, IsArena}
 use Rattle.scev_arena.proofs.WellMade.{well_made}
 use Rattle.scev_forms.specs.Gather.{is_rec_of, recs_of}
-use Rattle.scev_walk.proofs.Places.{atom_is}
+use Rattle.scev_walk.proofs.Places.{atom_is, no_atom_there}
 use Rattle.scev_walk.proofs.Walking.{count_of_parts}
 use Rattle.scev_sums.specs.Answers.{AreAll, AreTreesOfAt, trees_at}
 use Rattle.scev_sums.specs.Levels.{IsRecurrence}
@@ -101,3 +101,22 @@ module _ (nodes : List Node) (id : ExprId) (n : Node) (arena : IsArena nodes) (t
               (subst (λ v. HaveWidth v (parts_of (trees_at nodes parts))) same may.1.1),
           omega (arith, may.1.0, many),
         )
+
+-- ---- nodes that are no recurrences
+
+no_rec_kind : (l : ℕ) (k : Kind) (w : ℕ) (parts : Parts)
+    → ((loop : LoopId) → k ≡ kind.Rec loop → ⊥)
+    → is_rec_of l (atom k w parts) ≡ false
+no_rec_kind l (kind.Rec loop) w parts other = absurd (other loop refl)
+no_rec_kind l _ w parts other = refl
+
+pub no_rec_there : (nodes : List Node) (id : ExprId) (n : Node) (l : ℕ) → IsArena nodes
+    → slice_get nodes id.0 ≡ Some n
+    → ((loop : LoopId) (width : Width) (parts : List ExprId) → n ≡ node.Atom (kind.Rec loop) width parts → ⊥)
+    → is_rec_of l (atom_of nodes id) ≡ false
+no_rec_there nodes id (node.Tree width terms) l arena there other =
+    ap (is_rec_of l) (no_atom_there nodes id (node.Tree width terms) arena there width terms refl)
+no_rec_there nodes id (node.Atom k width parts) l arena there other =
+    ap (is_rec_of l) (atom_is nodes id (node.Atom k width parts) arena there k width parts refl)
+    ∙ no_rec_kind l k width.bits (parts_of (trees_at nodes parts))
+    (λ loop e. other loop width parts (ap (λ x. node.Atom x width parts) e))
