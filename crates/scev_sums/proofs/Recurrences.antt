@@ -11,7 +11,7 @@ use Rattle.scev_tree.specs.Tree.{Tree, Factors, Atom, Parts, factor, atom, parts
 use Rattle.scev_tree.specs.Canonical.{HaveWidth}
 use Rattle.scev_arena.specs.declared.node.Node.{Node}
 use Rattle.scev_arena.specs.declared.node.Node.TheVariants as node
-use Rattle.scev_arena.specs.Meaning.{meanings, factors_at, tree_of, atom_of}
+use Rattle.scev_arena.specs.Meaning.{meanings, factors_at, atom_of}
 use Rattle.scev_arena.specs.Standing.{HoldsAtom, IsAtomAt, AreTrees, IsArena}
 use Rattle.scev_arena.proofs.WellMade.{well_made}
 use Rattle.scev_forms.specs.Gather.{is_rec_of, recs_of}

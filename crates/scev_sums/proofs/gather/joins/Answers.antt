@@ -1,4 +1,3 @@
-use Rattle.std.proofs.Common.{refl}
 use Rattle.scev_sums.proofs.Reading.{one_atom}
 use Rattle.scev_sums.proofs.gather.joins.Goals as goal
 

@@ -1,9 +1,8 @@
-use Rattle.std.proofs.Common.{rules, ◌≡◌, ◌+◌, false, List, [], ◌∷◌, ◌++◌, drop, refl, sym, ap, subst, ◌∙◌}
+use Rattle.std.proofs.Common.{rules, ◌≡◌, ◌+◌, false, List, [], ◌∷◌, ◌++◌, drop, sym, ap, subst, ◌∙◌}
 use Rattle.scev_base.specs.declared.ids.ExprId.{ExprId}
 use Rattle.scev_base.specs.declared.ids.LoopId.{LoopId}
 use Rattle.scev_base.specs.declared.width.Width.{Width}
 use Rattle.scev_tree.specs.declared.kind.Kind.TheVariants as kind
-use Rattle.scev_arena.specs.declared.node.Node.{Node}
 use Rattle.scev_arena.specs.declared.node.Node.TheVariants as node
 use Rattle.scev_arena.specs.Meaning.{atom_of, meanings, factors_at}
 use Rattle.scev_arena.proofs.WellMade.{atom_within}
@@ -32,13 +31,13 @@ nothing_more : (c : Joined-node)
     → record {
       recs : recs_with c.args.arena.now c.args.l.0 c.match-node.recs.items (drop (c.loop-id.id-index + 1) c.args.ids.now)
           ≡ forms.recs_of c.args.l.0 (factors_at (meanings c.args.arena.now) c.args.ids.now);
-      trees : AreAll (IsRecurrence c.args.arena.now c.args.w.bits) c.match-node.recs.items
+      trees : AreAll (IsRecurrence c.args.arena.now c.args.w.bits) c.match-node.recs.items;
     }
 nothing_more c same is = record {
   recs =
       ap (λ found. recs_with c.args.arena.now c.args.l.0 found (drop (c.loop-id.id-index + 1) c.args.ids.now)) same
       ∙ recs_without c.args.arena.now c.args.l.0 c.loop-id.recs.items c.args.ids.now c.loop-id.id-index
-          c.loop-id-test.true is
+      c.loop-id-test.true is
       ∙ c.loop-id.invariant.recs;
   trees = subst (AreAll (IsRecurrence c.args.arena.now c.args.w.bits)) (sym same) c.loop-id.invariant.trees;
 }
@@ -72,9 +71,9 @@ loop-id-preserved c =
             recs =
                 ap (λ recs. recs_with nodes l recs (drop (at + 1) ids)) pushed
                 ∙ recs_more nodes l found ids at (kind.Rec arm.other) arm.width.bits arm.parts c.loop-id-test.true
-                    (atom_is nodes id n c.node.ensures.arena c.node.ensures.node (kind.Rec arm.other) arm.width
-                    arm.parts is)
-                    (sym w.if-eq.ensures)
+                (atom_is nodes id n c.node.ensures.arena c.node.ensures.node (kind.Rec arm.other) arm.width
+                arm.parts is)
+                (sym w.if-eq.ensures)
                 ∙ c.loop-id.invariant.recs;
             trees = subst (AreAll (IsRecurrence nodes c.args.w.bits)) (sym pushed)
                 (all_more (IsRecurrence nodes c.args.w.bits) found arm.parts c.loop-id.invariant.trees

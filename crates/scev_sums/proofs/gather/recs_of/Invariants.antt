@@ -10,5 +10,5 @@ abbrev pub invariant-loop-id : goal.invariant-loop-id
 invariant-loop-id l = record {
   recs : recs_with l.arena l.l.0 l.recs.items (drop l.id-index l.ids)
       ≡ forms.recs_of l.l.0 (factors_at (meanings l.arena) l.ids);
-  trees : AreAll (IsRecurrence l.arena l.fn.w.bits) l.recs.items
+  trees : AreAll (IsRecurrence l.arena l.fn.w.bits) l.recs.items;
 }

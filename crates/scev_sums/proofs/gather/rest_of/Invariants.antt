@@ -9,5 +9,5 @@ abbrev pub invariant-loop-id : goal.invariant-loop-id
 invariant-loop-id l = record {
   rest : rest_with (meanings l.arena) l.l.0 l.rest.items (drop l.id-index l.ids)
       ≡ forms.rest_of l.l.0 (factors_at (meanings l.arena) l.ids);
-  atoms : (w : ℕ) → AreAtoms l.arena w l.ids → AreAtoms l.arena w l.rest.items
+  atoms : (w : ℕ) → AreAtoms l.arena w l.ids → AreAtoms l.arena w l.rest.items;
 }

@@ -1,14 +1,13 @@
 use Rattle.std.proofs.Common.{◌≡◌, ◌+◌, [], ◌∷◌, ◌++◌, drop, sym, ap, subst, ◌∙◌}
 use Rattle.std.proofs.lemmas.List.{drop_all}
-use Rattle.scev_tree.specs.Canonical.{AreCanonicalTerms}
-use Rattle.scev_forms.proofs.Monomials.{joining_canonical, staying_canonical}
 use Rattle.poly_terms.proofs.ProductLemmas.{drop_at}
+use Rattle.scev_tree.specs.Canonical.{AreCanonicalTerms}
 use Rattle.scev_arena.specs.Meaning.{meanings, terms_at, factors_at}
-use Rattle.scev_forms.specs.Gather as forms
 use Rattle.scev_arena.specs.Standing.{AreAtoms, AreOverAtoms}
-use Rattle.scev_polys.specs.Polynomials.{IsPolynomial}
-use Rattle.scev_polys.proofs.AtPlaces.{over_both}
+use Rattle.scev_forms.proofs.Monomials.{joining_canonical, staying_canonical}
+use Rattle.scev_forms.specs.Gather as forms
 use Rattle.scev_walk.proofs.Among.{term_among}
+use Rattle.scev_polys.proofs.AtPlaces.{over_both}
 use Rattle.scev_sums.proofs.Reading.{joining_with, staying_with, joining_more, joining_without, staying_more}
 use Rattle.scev_sums.proofs.Reading.{staying_without, joining_whole, staying_whole}
 use Rattle.scev_sums.proofs.gather.split.Goals as goal
@@ -19,8 +18,7 @@ pub joins-requires : goal.joins-requires
 joins-requires c =
     let nodes = c.args.arena.now in
     let w = c.args.w.bits in
-    let t = c.term-item.result in
-    (
+    let t = c.term-item.result in (
       w,
       subst (AreAtoms nodes w) (sym c.as_slice.ensures)
           (term_among nodes w c.args.terms.now c.loop-term.term-index t t c.requires.over c.loop-term-test.true

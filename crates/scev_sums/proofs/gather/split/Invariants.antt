@@ -12,5 +12,5 @@ invariant-loop-term l = record {
   others : staying_with (meanings l.arena) l.nest l.l.0 l.others.items (drop l.term-index l.terms)
       ≡ forms.staying l.nest l.l.0 (terms_at (meanings l.arena) l.terms);
   group_over : AreOverAtoms l.arena l.fn.w.bits l.group.items;
-  others_over : AreOverAtoms l.arena l.fn.w.bits l.others.items
+  others_over : AreOverAtoms l.arena l.fn.w.bits l.others.items;
 }
