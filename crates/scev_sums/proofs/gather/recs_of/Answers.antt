@@ -29,7 +29,8 @@ nothing_more : (c : Joined-node)
     → c.match-node.recs.items ≡ c.loop-id.recs.items
     → forms.is_rec_of c.args.l.0 (atom_of c.args.arena.now (id_at c.args.ids.now c.loop-id.id-index)) ≡ false
     → record {
-      recs : recs_with c.args.arena.now c.args.l.0 c.match-node.recs.items (drop (c.loop-id.id-index + 1) c.args.ids.now)
+      recs : recs_with c.args.arena.now c.args.l.0 c.match-node.recs.items
+          (drop (c.loop-id.id-index + 1) c.args.ids.now)
           ≡ forms.recs_of c.args.l.0 (factors_at (meanings c.args.arena.now) c.args.ids.now);
       trees : AreAll (IsRecurrence c.args.arena.now c.args.w.bits) c.match-node.recs.items;
     }
