@@ -5,11 +5,13 @@ ghost use Rattle.std.specs.Prelude.{◌≡◌, ℕ, suc, ◌+◌, ◌≤◌, len
 ghost use Rattle.scev_tree.specs.Tree as tree;
 ghost use Rattle.scev_arena.specs.Meaning.{meanings, terms_at, factors_at, tree_of};
 ghost use Rattle.scev_forms.specs.Sums as forms;
+ghost use Rattle.scev_forms.specs.Polynomials.{terms_sum};
 ghost use Rattle.scev_polys.specs.Polynomials.{IsPolynomial};
 ghost use Rattle.scev_sums.specs.Answers.{GoesOn, IsAt, AreAt, AreAll, IsTreeOfAt, AreTreesOfAt, trees_at, Tells};
 ghost use Rattle.scev_sums.specs.Levels.{former, IsGathering, IsMonomialOf, IsRecurrence, NamePlaces};
 ghost use Rattle.scev_forms.specs.Gather as gather;
-ghost use Rattle.rec_algebra.specs.Plans.{NamesEarlier, IsStepBelow};
+ghost use Rattle.rec_algebra.specs.Forming.{product_plan};
+ghost use Rattle.rec_algebra.specs.Plans.{IsPlan, NamesEarlier, IsStepBelow};
 
 use crate::error::FoldError;
 use crate::gather::{is_settled, one_term, recs_of, rest_of, split, terms_of};
@@ -80,7 +82,8 @@ fn gathered(
         (terms_at (meanings arena.old) terms)) result }
 {
     let mut terms = terms;
-    for _ in 0..=nest.loop_count() {
+    let mut left = nest.loop_count();
+    loop {
         match gather_once(alloc, arena, nest, at, terms.as_slice())? {
             Gathering::Unchanged => return tested_terms(arena, at.width, terms),
             Gathering::Whole(id) => {
@@ -88,14 +91,28 @@ fn gathered(
                 return Ok(id);
             }
             Gathering::Again(more) => {
-                if more.as_slice() == terms.as_slice() {
+                if are_same(arena, at.width, more.as_slice(), terms.as_slice()) {
                     return tested_terms(arena, at.width, terms);
                 }
+                if left == 0 {
+                    return tested_terms(arena, at.width, more);
+                }
                 terms = more;
+                left -= 1;
             }
         }
     }
-    tested_terms(arena, at.width, terms)
+}
+
+/// Whether two polynomials are one tree. Places of one thing are one, so only places are compared.
+fn are_same(arena: &Arena, w: Width, left: &[Term], right: &[Term]) -> bool
+    requires left { IsPolynomial arena.now w.bits left.now }
+    requires right { IsPolynomial arena.now w.bits right.now }
+    ensures { result ≡ forms.same_tree (tree.polynomial w.bits (terms_at (meanings arena.now) left.now))
+        (tree.polynomial w.bits (terms_at (meanings arena.now) right.now)) }
+{
+    let _ = (arena.len(), w);
+    left == right
 }
 
 /// One step of gathering, at the deepest loop of a factor.
@@ -125,6 +142,25 @@ fn gather_once(
     Ok(beside(alloc, arena, at.width, l, &parts, &others)?)
 }
 
+/// The tree of the sum of two polynomials.
+fn whole_of(
+    alloc: Global,
+    arena: &mut Arena,
+    w: Width,
+    terms: &[Term],
+    others: &[Term],
+) -> Result<Gathering, AllocError>
+    requires terms { IsPolynomial arena.old w.bits terms.now }
+    requires others { IsPolynomial arena.old w.bits others.now }
+    ensures grows { GoesOn arena.old arena.new }
+    ensures whole { IfOk result (λ gathering. (first : tree.Terms) → IsGathering arena.new w.bits first gathering
+        (forms.Whole (tree.polynomial w.bits (terms_sum w.bits (terms_at (meanings arena.old) terms.now)
+        (terms_at (meanings arena.old) others.now))))) }
+{
+    let whole = sum(alloc, arena, w, terms, others)?;
+    Ok(Gathering::Whole(tree_of_terms(arena, w, whole)?))
+}
+
 /// The recurrence with these parts, beside other terms. One part alone joins them.
 fn beside(
     alloc: Global,
@@ -140,12 +176,12 @@ fn beside(
     ensures gathering { IfOk result (λ gathering. (terms : tree.Terms) → IsGathering arena.new w.bits terms gathering
         (forms.beside w.bits l.0 (trees_at arena.old parts.now) (terms_at (meanings arena.old) others.now))) }
 {
-    let rec = match parts {
-        [] => Items::new(alloc),
-        [only] if others.is_empty() => return Ok(Gathering::Whole(*only)),
+    match parts {
+        [] => whole_of(alloc, arena, w, &[], others),
+        [only] if others.is_empty() => Ok(Gathering::Whole(*only)),
         [only] => {
             let more = sum(alloc, arena, w, terms_of(arena, w, *only), others)?;
-            return Ok(Gathering::Again(more));
+            Ok(Gathering::Again(more))
         }
         _ => {
             let atom = arena.intern(Node::Atom {
@@ -153,11 +189,10 @@ fn beside(
                 width: w,
                 parts: Items::from_slice(alloc, parts)?,
             })?;
-            of_atom(alloc, arena, atom, w)?
+            let rec = of_atom(alloc, arena, atom, w)?;
+            whole_of(alloc, arena, w, rec.as_slice(), others)
         }
-    };
-    let whole = sum(alloc, arena, w, rec.as_slice(), others)?;
-    Ok(Gathering::Whole(tree_of_terms(arena, w, whole)?))
+    }
 }
 
 /// The parts of the recurrence that a group of monomials becomes: each becomes one, and they are added from the left.
@@ -263,11 +298,27 @@ fn parts_times(
     let mut parts = Vec::from_slice(alloc, first)?;
     for rec in recs {
         let rec = rec.as_slice();
-        let plan = mul_plan(alloc, parts.len() as u64, rec.len() as u64)?;
+        let plan = plan_of_product(alloc, &parts, rec)?;
         parts.extend_from_slice(rec)?;
         parts = carried(alloc, arena, nest, at, l, &plan, parts)?;
     }
     Ok(parts)
+}
+
+/// The plan of the product of two recurrences of a loop, by their parts.
+fn plan_of_product(
+    alloc: Global,
+    left: &[ExprId],
+    right: &[ExprId],
+) -> Result<Plan, AllocError>
+    requires left { 1 ≤ length left.now }
+    requires right { 1 ≤ length right.now }
+    ensures plan { IfOk result (λ plan. plan ≡ product_plan (length left.now) (length right.now)) }
+    ensures operands { IfOk result (λ plan. plan.parts ≡ length left.now + length right.now) }
+    ensures count { IfOk result (λ plan. length plan.results + 1 ≡ length left.now + length right.now) }
+    ensures places { IfOk result IsPlan }
+{
+    mul_plan(alloc, left.len() as u64, right.len() as u64)
 }
 
 /// The parts of a recurrence of the loop, times a tree; nothing is multiplied by 1.

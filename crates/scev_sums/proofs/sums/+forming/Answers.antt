@@ -11,11 +11,11 @@ use Rattle.scev_arena.specs.declared.node.Node.{Node}
 use Rattle.scev_arena.specs.Meaning.{meanings, terms_at, factors_at, tree_of}
 use Rattle.scev_arena.specs.Standing.{AreAtoms}
 use Rattle.scev_arena.proofs.PlacesStay.{length_behind}
-use Rattle.scev_forms.specs.Outcome.{Done, next}
+use Rattle.scev_forms.specs.Outcome.{Done, next, tested}
 use Rattle.scev_forms.specs.Gather.{trimmed, recs_of, rest_of}
 use Rattle.scev_forms.specs.Sums.{step_by, places_by, carried_by, tested_parts, at_place}
 use Rattle.scev_forms.specs.Sums.{parts_sum, parts_product, parts_multiple, parts_times, parts_with}
-use Rattle.scev_forms.specs.Sums.{monomial_parts, parts_plus, group_parts}
+use Rattle.scev_forms.specs.Sums.{monomial_parts, parts_plus, group_parts, gathered, formed}
 use Rattle.scev_polys.specs.Polynomials.{IsPolynomial}
 use Rattle.scev_sums.specs.Answers.{GoesOn, IsAt, AreAt, AreAll, IsTreeOfAt, AreTreesOfAt, trees_at, Tells}
 use Rattle.scev_sums.specs.Levels.{former, IsGathering, IsMonomialOf, IsRecurrence, NamePlaces}
@@ -30,6 +30,7 @@ use Rattle.scev_sums.proofs.Growth.{wide_goes_on, same_tree_goes_on, trees_go_on
 use Rattle.scev_sums.proofs.Groups.{term_next, first_monomial, rest_polynomial, rest_formed, no_term_left, next_term}
 use Rattle.scev_sums.proofs.Growth.{atoms_go_on, same_factors_go_on, same_terms_go_on, polynomial_goes_on}
 use Rattle.scev_polys.proofs.AtPlaces as at_places
+use Rattle.scev_sums.proofs.Gathered.{no_level, one_level}
 use Rattle.scev_sums.proofs.sums.+forming.Goals as goal
 
 -- the places that a call gives hold these trees
@@ -93,16 +94,32 @@ carried-returns-clause-parts t c =
 
 -- src/sums.rt:58:9
 pub formed-returns-then-at-eq0-clause-tree : goal.formed-returns-then-at-eq0-clause-tree
-formed-returns-then-at-eq0-clause-tree t c = let h = c.tested_terms.ensures.tree in ?
+formed-returns-then-at-eq0-clause-tree t c =
+    told_same (IsAt c.tested_terms.new.arena c.args.at.width.bits)
+    (tested (polynomial c.args.at.width.bits (terms_at (meanings c.args.arena.now) c.args.terms)))
+    (former c.args.nest.now c.args.at (terms_at (meanings c.args.arena.now) c.args.terms))
+    c.tested_terms.result
+    (no_level c.args.nest.now c.args.at.width.bits c.args.at.loops (terms_at (meanings c.args.arena.now) c.args.terms)
+    c.if-at-eq0.true)
+    c.tested_terms.ensures.tree
 
 -- src/sums.rt:44:1
 pub formed-returns-clause-tree : goal.formed-returns-clause-tree
-formed-returns-clause-tree t c = ?
+formed-returns-clause-tree t c =
+    let form = formed c.args.nest.now c.args.at.width.bits (c.args.at.loops - 1) in
+    told_same (IsAt c.gathered.new.arena c.args.at.width.bits)
+    (gathered form c.args.nest.now c.args.at.width.bits (suc (length c.args.nest.now))
+    (terms_at (meanings c.args.arena.now) c.args.terms))
+    (former c.args.nest.now c.args.at (terms_at (meanings c.args.arena.now) c.args.terms))
+    c.gathered.result
+    (one_level c.args.nest.now c.args.at.width.bits c.args.at.loops (terms_at (meanings c.args.arena.now) c.args.terms)
+    c.if-at-eq0.false)
+    c.gathered.ensures.tree
 
 -- src/sums.rt:122:9
 pub gather_once-returns-then-is_settled-clause-gathering :
     goal.gather_once-returns-then-is_settled-clause-gathering
-gather_once-returns-then-is_settled-clause-gathering t c = ?
+gather_once-returns-then-is_settled-clause-gathering t c = let h = c.in-Some.ensures in let k = c.is_settled.ensures in let i = c.if-is_settled.true in ?
 
 -- src/sums.rt:124:17
 pub gather_once-returns-in_err-parts-clause-gathering :
@@ -115,87 +132,7 @@ gather_once-beside-requires-clause-others t c = ?
 
 -- src/sums.rt:102:1
 pub gather_once-returns-clause-gathering : goal.gather_once-returns-clause-gathering
-gather_once-returns-clause-gathering t c = ?
-
--- src/sums.rt:83:17
-pub gathered-overflow_step : goal.gathered-overflow_step
-gathered-overflow_step t c = ?
-
--- src/sums.rt:83:5
-pub gathered-loop-init : goal.gathered-loop-init
-gathered-loop-init t c = ?
-
--- src/sums.rt:84:15
-pub gathered-gather_once-requires : goal.gathered-gather_once-requires
-gathered-gather_once-requires t c = ?
-
--- src/sums.rt:84:15
-pub gathered-returns-in_err-gather_once-clause-grows :
-    goal.gathered-returns-in_err-gather_once-clause-grows
-gathered-returns-in_err-gather_once-clause-grows t c = ?
-
--- src/sums.rt:84:15
-pub gathered-returns-in_err-gather_once-clause-tree :
-    goal.gathered-returns-in_err-gather_once-clause-tree
-gathered-returns-in_err-gather_once-clause-tree t c = ?
-
--- src/sums.rt:85:37
-pub gathered-tested_terms-requires : goal.gathered-tested_terms-requires
-gathered-tested_terms-requires t c = ?
-
--- src/sums.rt:85:37
-pub gathered-returns-in-Unchanged-clause-grows : goal.gathered-returns-in-Unchanged-clause-grows
-gathered-returns-in-Unchanged-clause-grows t c = ?
-
--- src/sums.rt:85:37
-pub gathered-returns-in-Unchanged-clause-tree : goal.gathered-returns-in-Unchanged-clause-tree
-gathered-returns-in-Unchanged-clause-tree t c = ?
-
--- src/sums.rt:87:17
-pub gathered-returns-in_err-tested-in-Whole-clause-grows :
-    goal.gathered-returns-in_err-tested-in-Whole-clause-grows
-gathered-returns-in_err-tested-in-Whole-clause-grows t c = ?
-
--- src/sums.rt:87:17
-pub gathered-returns-in_err-tested-in-Whole-clause-tree :
-    goal.gathered-returns-in_err-tested-in-Whole-clause-tree
-gathered-returns-in_err-tested-in-Whole-clause-tree t c = ?
-
--- src/sums.rt:88:17
-pub gathered-returns-in-Whole-clause-grows : goal.gathered-returns-in-Whole-clause-grows
-gathered-returns-in-Whole-clause-grows t c = ?
-
--- src/sums.rt:88:17
-pub gathered-returns-in-Whole-clause-tree : goal.gathered-returns-in-Whole-clause-tree
-gathered-returns-in-Whole-clause-tree t c = ?
-
--- src/sums.rt:92:21
-pub gathered-tested_terms-requires-then-eq : goal.gathered-tested_terms-requires-then-eq
-gathered-tested_terms-requires-then-eq t c = ?
-
--- src/sums.rt:92:21
-pub gathered-returns-then-eq-clause-grows : goal.gathered-returns-then-eq-clause-grows
-gathered-returns-then-eq-clause-grows t c = ?
-
--- src/sums.rt:92:21
-pub gathered-returns-then-eq-clause-tree : goal.gathered-returns-then-eq-clause-tree
-gathered-returns-then-eq-clause-tree t c = ?
-
--- src/sums.rt:83:5
-pub gathered-loop-preserved : goal.gathered-loop-preserved
-gathered-loop-preserved t c = ?
-
--- src/sums.rt:98:5
-pub gathered-tested_terms-requires-2 : goal.gathered-tested_terms-requires-2
-gathered-tested_terms-requires-2 t c = ?
-
--- src/sums.rt:68:1
-pub gathered-returns-clause-grows : goal.gathered-returns-clause-grows
-gathered-returns-clause-grows t c = ?
-
--- src/sums.rt:68:1
-pub gathered-returns-clause-tree : goal.gathered-returns-clause-tree
-gathered-returns-clause-tree t c = ?
+gather_once-returns-clause-gathering t c = let k = c.in_ok-beside.ensures.gathering in ?
 
 -- src/sums.rt:183:5
 pub group_parts-loop-term-init : goal.group_parts-loop-term-init
@@ -544,12 +481,9 @@ parts_times-loop-rec-init t c =
     }
 
 -- src/sums.rt:265:20
-pub parts_times-mul_plan-requires-clause-left : goal.parts_times-mul_plan-requires-clause-left
-parts_times-mul_plan-requires-clause-left t c = omega (arith, c.loop-rec.invariant.some, c.len.ensures)
-
--- src/sums.rt:265:20
-pub parts_times-mul_plan-requires-clause-few : goal.parts_times-mul_plan-requires-clause-few
-parts_times-mul_plan-requires-clause-few t c = ?
+pub parts_times-plan_of_product-requires-clause-left : goal.parts_times-plan_of_product-requires-clause-left
+parts_times-plan_of_product-requires-clause-left t c =
+    subst (λ ids. 1 ≤ length ids) (sym c.deref.ensures.value) c.loop-rec.invariant.some
 
 -- src/sums.rt:265:20
 pub parts_times-returns-in_err-plan-clause-grows :
@@ -580,7 +514,7 @@ parts_times-carried-requires t c =
     c.in_ok-extend_from_slice.ensures.items ∙ ap (λ ids. parts ++ ids) c.as_slice-rec.ensures in
     let held = both_hold old w parts rec c.loop-rec.invariant.trees
     (trees_go_on first old c.loop-rec.invariant.grows w rec all.0.0) in
-    let held_len : c.len.result ≡ length parts = omega (arith, c.len.ensures) in
+    let held_len = ap length c.deref.ensures.value in
     let count = ap length c.as_slice-rec.ensures in (
       omega (arith, c.decreases), (
         (c.in_ok-plan.ensures.places,
@@ -616,7 +550,7 @@ parts_times-returns-in_err-parts-2-clause-parts t c =
     let all = subst (AreAll (IsRecurrence first w)) left c.loop-rec.invariant.recs in
     let items : c.extend_from_slice.new.self.items ≡ parts ++ rec =
     c.in_ok-extend_from_slice.ensures.items ∙ ap (λ ids. parts ++ ids) c.as_slice-rec.ensures in
-    let held_len : c.len.result ≡ length parts = omega (arith, c.len.ensures) in
+    let held_len = ap length c.deref.ensures.value in
     let count = ap length c.as_slice-rec.ensures in
     let plan = c.in_ok-plan.ensures.plan ∙ ap (λ m. product_plan m (length c.as_slice-rec.result.now)) held_len
     ∙ ap (product_plan (length parts)) count in
@@ -653,7 +587,7 @@ parts_times-loop-rec-preserved t c =
     let all = subst (AreAll (IsRecurrence first w)) left c.loop-rec.invariant.recs in
     let items : c.extend_from_slice.new.self.items ≡ parts ++ rec =
     c.in_ok-extend_from_slice.ensures.items ∙ ap (λ ids. parts ++ ids) c.as_slice-rec.ensures in
-    let held_len : c.len.result ≡ length parts = omega (arith, c.len.ensures) in
+    let held_len = ap length c.deref.ensures.value in
     let count = ap length c.as_slice-rec.ensures in
     let plan = c.in_ok-plan.ensures.plan ∙ ap (λ m. product_plan m (length c.as_slice-rec.result.now)) held_len
     ∙ ap (product_plan (length parts)) count in

@@ -1,4 +1,4 @@
-use Rattle.std.proofs.Common.{◌≡◌, suc, ◌+◌, ◌-◌, ◌*◌, ◌≤◌, length, map, drop}
+use Rattle.std.proofs.Common.{◌≡◌, suc, ◌+◌, ◌*◌, ◌≤◌, length, map, drop}
 use Rattle.rec_algebra.specs.Plans.{NamesEarlier}
 use Rattle.scev_arena.specs.Meaning.{meanings, terms_at}
 use Rattle.scev_forms.specs.Sums as forms
@@ -91,12 +91,15 @@ invariant-group_parts-loop-term l =
       ≡ forms.group_parts form w l.l.0 (terms_at (meanings l.fn.arena) l.fn.group);
     }
 
-abbrev pub invariant-gathered-loop : goal.invariant-gathered-loop
-invariant-gathered-loop l =
+abbrev pub decreases-gathered-loop-terms : goal.decreases-gathered-loop-terms
+decreases-gathered-loop-terms l = l.left
+
+abbrev pub invariant-gathered-loop-terms : goal.invariant-gathered-loop-terms
+invariant-gathered-loop-terms l =
     let form = former l.nest l.at in
     let w = l.at.width.bits in record {
       grows : GoesOn l.fn.arena l.arena;
-      left : IsPolynomial l.arena w l.terms;
-      same : forms.gathered form l.nest w (l.end - l.counter) (terms_at (meanings l.arena) l.terms)
+      polynomial : IsPolynomial l.arena w l.terms;
+      same : forms.gathered form l.nest w (suc l.left) (terms_at (meanings l.arena) l.terms)
       ≡ forms.gathered form l.nest w (suc (length l.nest)) (terms_at (meanings l.fn.arena) l.fn.terms);
     }
