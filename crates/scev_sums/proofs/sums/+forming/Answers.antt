@@ -12,17 +12,18 @@ use Rattle.scev_arena.specs.Meaning.{meanings, terms_at, factors_at, tree_of}
 use Rattle.scev_arena.specs.Standing.{AreAtoms}
 use Rattle.scev_arena.proofs.PlacesStay.{length_behind}
 use Rattle.scev_forms.specs.Outcome.{Done, next, tested}
-use Rattle.scev_forms.specs.Gather.{trimmed, recs_of, rest_of}
+use Rattle.scev_forms.specs.Gather.{trimmed, recs_of, rest_of, joining, staying, deepest, loops_of_terms}
 use Rattle.scev_forms.specs.Sums.{step_by, places_by, carried_by, tested_parts, at_place}
 use Rattle.scev_forms.specs.Sums.{parts_sum, parts_product, parts_multiple, parts_times, parts_with}
 use Rattle.scev_forms.specs.Sums.{monomial_parts, parts_plus, group_parts, gathered, formed}
+use Rattle.scev_forms.specs.Sums.{Whole, same_tree, is_settled, beside, gathering_at, after_gathering}
 use Rattle.scev_polys.specs.Polynomials.{IsPolynomial}
 use Rattle.scev_sums.specs.Answers.{GoesOn, IsAt, AreAt, AreAll, IsTreeOfAt, AreTreesOfAt, trees_at, Tells}
 use Rattle.scev_sums.specs.Levels.{former, IsGathering, IsMonomialOf, IsRecurrence, NamePlaces}
 use Rattle.scev_sums.proofs.Growth.{goes_on_itself, goes_on_again}
 use Rattle.scev_sums.proofs.Placing.{both_hold, drop_next, tree_within, more_held, no_step_left, next_step, step_taken}
 use Rattle.scev_sums.proofs.Placing.{carried_out}
-use Rattle.scev_sums.proofs.Refusals.{refusal_handed, next_of}
+use Rattle.scev_sums.proofs.Refusals.{refusal_handed, refusal_of, next_of}
 use Rattle.scev_sums.proofs.Telling.{told_same}
 use Rattle.scev_sums.proofs.Recurrences.{recurrences_go_on, same_recurrences_go_on, sum_carried, product_carried}
 use Rattle.scev_sums.proofs.Recurrences.{no_recurrence_left, next_recurrence, with_first}
@@ -30,7 +31,9 @@ use Rattle.scev_sums.proofs.Growth.{wide_goes_on, same_tree_goes_on, trees_go_on
 use Rattle.scev_sums.proofs.Groups.{term_next, first_monomial, rest_polynomial, rest_formed, no_term_left, next_term}
 use Rattle.scev_sums.proofs.Growth.{atoms_go_on, same_factors_go_on, same_terms_go_on, polynomial_goes_on}
 use Rattle.scev_polys.proofs.AtPlaces as at_places
-use Rattle.scev_sums.proofs.Gathered.{no_level, one_level}
+use Rattle.scev_sums.proofs.Gathered.{no_level, one_level, settled, unsettled, no_turn, one_turn, after_turn}
+use Rattle.scev_sums.proofs.Gathered.{same_again, other_again}
+use Rattle.scev_sums.specs.declared.sums.Gathering.TheVariants as code
 use Rattle.scev_sums.proofs.sums.+forming.Goals as goal
 
 -- the places that a call gives hold these trees
@@ -119,20 +122,91 @@ formed-returns-clause-tree t c =
 -- src/sums.rt:122:9
 pub gather_once-returns-then-is_settled-clause-gathering :
     goal.gather_once-returns-then-is_settled-clause-gathering
-gather_once-returns-then-is_settled-clause-gathering t c = let h = c.in-Some.ensures in let k = c.is_settled.ensures in let i = c.if-is_settled.true in ?
+gather_once-returns-then-is_settled-clause-gathering t c =
+    let parents = c.args.nest.now in
+    let form = former parents c.args.at in
+    let old = c.args.arena.now in
+    let w = c.args.at.width.bits in
+    let l = c.in-Some.l.0 in
+    let terms = terms_at (meanings old) c.args.terms.now in
+    let found = deepest parents (loops_of_terms terms) in
+    let group = joining parents l terms in
+    let grouped : terms_at (meanings old) c.deref.result.now ≡ group =
+    ap (terms_at (meanings old)) c.deref.ensures.value ∙ c.in_ok-group.ensures.group in
+    let is = ap (is_settled l) (sym grouped) ∙ sym c.is_settled.ensures ∙ c.if-is_settled.true in
+    (Whole (polynomial w terms), settled form parents w terms l found c.in-Some.ensures is, refl)
 
 -- src/sums.rt:124:17
 pub gather_once-returns-in_err-parts-clause-gathering :
     goal.gather_once-returns-in_err-parts-clause-gathering
-gather_once-returns-in_err-parts-clause-gathering t c = ?
+gather_once-returns-in_err-parts-clause-gathering t c =
+    let parents = c.args.nest.now in
+    let form = former parents c.args.at in
+    let old = c.args.arena.now in
+    let w = c.args.at.width.bits in
+    let l = c.in-Some.l.0 in
+    let terms = terms_at (meanings old) c.args.terms.now in
+    let found = deepest parents (loops_of_terms terms) in
+    let group = joining parents l terms in
+    let grouped : terms_at (meanings old) c.deref.result.now ≡ group =
+    ap (terms_at (meanings old)) c.deref.ensures.value ∙ c.in_ok-group.ensures.group in
+    let is = ap (is_settled l) (sym grouped) ∙ sym c.is_settled.ensures ∙ c.if-is_settled.false in
+    let new = c.group_parts.new.arena in
+    let again : group_parts form w l (terms_at (meanings old) c.deref-2.result.now) ≡ group_parts form w l group =
+    ap (λ ts. group_parts form w l (terms_at (meanings old) ts)) c.deref-2.ensures.value
+    ∙ ap (group_parts form w l) c.in_ok-group.ensures.group in
+    let after = λ (parts : List Tree). Done (beside w l parts (staying parents l terms)) in
+    let whole = unsettled form parents w terms l found c.in-Some.ensures is in
+    let p = err_from_is_err_and c.from_residual-in_err-parts.result c.from_residual-in_err-parts.ensures.1 in
+    refusal_handed (HoldAt new w) (IsGathering new w terms) (group_parts form w l group) after
+    (gathering_at form parents w terms found)
+    c.in_err-parts.field-0.0 p.0 c.from_residual-in_err-parts.result
+    (subst (λ o. Tells (HoldAt new w) o (Err c.in_err-parts.field-0.0)) again c.in_err-parts.ensures.parts)
+    whole p.1 p.2
 
 -- src/sums.rt:125:8
 pub gather_once-beside-requires-clause-others : goal.gather_once-beside-requires-clause-others
-gather_once-beside-requires-clause-others t c = ?
+gather_once-beside-requires-clause-others t c =
+    let old = c.args.arena.now in
+    let new = c.group_parts.new.arena in
+    let w = c.args.at.width.bits in
+    subst (IsPolynomial new w) (sym c.deref-4.ensures.value)
+    (polynomial_goes_on old new c.group_parts.ensures.grows w c.in_ok-group.others.items
+    c.in_ok-group.ensures.others_polynomial)
 
 -- src/sums.rt:102:1
 pub gather_once-returns-clause-gathering : goal.gather_once-returns-clause-gathering
-gather_once-returns-clause-gathering t c = let k = c.in_ok-beside.ensures.gathering in ?
+gather_once-returns-clause-gathering t c =
+    let parents = c.args.nest.now in
+    let form = former parents c.args.at in
+    let old = c.args.arena.now in
+    let w = c.args.at.width.bits in
+    let l = c.in-Some.l.0 in
+    let terms = terms_at (meanings old) c.args.terms.now in
+    let found = deepest parents (loops_of_terms terms) in
+    let group = joining parents l terms in
+    let grouped : terms_at (meanings old) c.deref.result.now ≡ group =
+    ap (terms_at (meanings old)) c.deref.ensures.value ∙ c.in_ok-group.ensures.group in
+    let is = ap (is_settled l) (sym grouped) ∙ sym c.is_settled.ensures ∙ c.if-is_settled.false in
+    let new = c.group_parts.new.arena in
+    let again : group_parts form w l (terms_at (meanings old) c.deref-2.result.now) ≡ group_parts form w l group =
+    ap (λ ts. group_parts form w l (terms_at (meanings old) ts)) c.deref-2.ensures.value
+    ∙ ap (group_parts form w l) c.in_ok-group.ensures.group in
+    let after = λ (parts : List Tree). Done (beside w l parts (staying parents l terms)) in
+    let whole = unsettled form parents w terms l found c.in-Some.ensures is in
+    let told = c.in_ok-parts.ensures.parts in
+    let parts : told.0 ≡ trees_at new c.deref-3.result.now =
+    sym told.2.1 ∙ sym (ap (trees_at new) c.deref-3.ensures.value) in
+    let others : staying parents l terms ≡ terms_at (meanings new) c.deref-4.result.now =
+    sym c.in_ok-group.ensures.others
+    ∙ sym (same_terms_go_on old new c.group_parts.ensures.grows w c.in_ok-group.others.items
+    c.in_ok-group.ensures.others_polynomial.over)
+    ∙ sym (ap (terms_at (meanings new)) c.deref-4.ensures.value) in
+    let given = beside w l (trees_at new c.deref-3.result.now) (terms_at (meanings new) c.deref-4.result.now) in
+    let formed = sym whole ∙ next_of (group_parts form w l group) after told.0 (sym again ∙ told.1)
+    ∙ ap (λ trees. Done (beside w l trees (staying parents l terms))) parts
+    ∙ ap (λ ts. Done (beside w l (trees_at new c.deref-3.result.now) ts)) others in
+    (given, formed, c.in_ok-beside.ensures.gathering terms)
 
 -- src/sums.rt:183:5
 pub group_parts-loop-term-init : goal.group_parts-loop-term-init
@@ -793,3 +867,229 @@ stepped-product_by-requires t c =
         tree_within nodes w places c.in-Mul.j (record { 0 = 0 }) c.requires.places below.1,
       ),
     )
+
+pub gathered-returns-in_err-gather_once-clause-tree : goal.gathered-returns-in_err-gather_once-clause-tree
+gathered-returns-in_err-gather_once-clause-tree t c =
+    let parents = c.args.nest.now in
+    let form = former parents c.args.at in
+    let w = c.args.at.width.bits in
+    let first = c.args.arena.now in
+    let old = c.loop-terms.arena in
+    let new = c.gather_once.new.arena in
+    let left = c.loop-terms.left in
+    let terms = terms_at (meanings old) c.as_slice.result.now in
+    let found = deepest parents (loops_of_terms terms) in
+    let slice = ap (terms_at (meanings old)) c.as_slice.ensures in
+    let all = ap (gathered form parents w (suc left)) slice ∙ c.loop-terms.invariant.same in
+    let whole = gathered form parents w (suc (length parents)) (terms_at (meanings first) c.args.terms) in
+    let p = err_from_is_err_and c.from_residual.result c.from_residual.ensures.1 in
+    refusal_handed (IsGathering new w terms) (IsAt new w) (gathering_at form parents w terms found)
+    (after_gathering (gathered form parents w left) w terms) whole
+    c.in_err-gather_once.field-0.0 p.0 c.from_residual.result c.in_err-gather_once.ensures.gathering
+    (one_turn form parents w terms left ∙ all) p.1 p.2
+
+pub gathered-tested_terms-requires : goal.gathered-tested_terms-requires
+gathered-tested_terms-requires t c =
+    polynomial_goes_on c.loop-terms.arena c.gather_once.new.arena c.gather_once.ensures.grows c.args.at.width.bits
+    c.loop-terms.terms c.loop-terms.invariant.polynomial
+
+pub gathered-returns-in-Unchanged-clause-tree : goal.gathered-returns-in-Unchanged-clause-tree
+gathered-returns-in-Unchanged-clause-tree t c =
+    let parents = c.args.nest.now in
+    let form = former parents c.args.at in
+    let w = c.args.at.width.bits in
+    let first = c.args.arena.now in
+    let old = c.loop-terms.arena in
+    let new = c.gather_once.new.arena in
+    let left = c.loop-terms.left in
+    let terms = terms_at (meanings old) c.as_slice.result.now in
+    let found = deepest parents (loops_of_terms terms) in
+    let slice = ap (terms_at (meanings old)) c.as_slice.ensures in
+    let all = ap (gathered form parents w (suc left)) slice ∙ c.loop-terms.invariant.same in
+    let whole = gathered form parents w (suc (length parents)) (terms_at (meanings first) c.args.terms) in
+    let told = c.in_ok-gather_once.ensures.gathering in
+    let is = subst (λ g. IsGathering new w terms g told.0) c.in-Unchanged.is told.2 in
+    let stays : terms_at (meanings new) c.loop-terms.terms ≡ terms =
+    same_terms_go_on old new c.gather_once.ensures.grows w c.loop-terms.terms c.loop-terms.invariant.polynomial.over
+    ∙ sym slice in
+    told_same (IsAt c.tested_terms.new.arena w)
+    (tested (polynomial w (terms_at (meanings new) c.loop-terms.terms))) whole c.tested_terms.result
+    (
+    ap (λ ts. tested (polynomial w ts)) stays
+    ∙ after_turn form parents w terms left (Whole (polynomial w terms)) (told.1 ∙ ap Done is)
+    ∙ all
+    )
+    c.tested_terms.ensures.tree
+
+pub gathered-returns-in_err-tested-in-Whole-clause-tree : goal.gathered-returns-in_err-tested-in-Whole-clause-tree
+gathered-returns-in_err-tested-in-Whole-clause-tree t c =
+    let parents = c.args.nest.now in
+    let form = former parents c.args.at in
+    let w = c.args.at.width.bits in
+    let first = c.args.arena.now in
+    let old = c.loop-terms.arena in
+    let new = c.gather_once.new.arena in
+    let left = c.loop-terms.left in
+    let terms = terms_at (meanings old) c.as_slice.result.now in
+    let found = deepest parents (loops_of_terms terms) in
+    let slice = ap (terms_at (meanings old)) c.as_slice.ensures in
+    let all = ap (gathered form parents w (suc left)) slice ∙ c.loop-terms.invariant.same in
+    let whole = gathered form parents w (suc (length parents)) (terms_at (meanings first) c.args.terms) in
+    let told = c.in_ok-gather_once.ensures.gathering in
+    let is = subst (λ g. IsGathering new w terms g told.0) c.in-Whole.is told.2 in
+    let same : tested (tree_of new c.in-Whole.id) ≡ whole =
+    ap tested is.2.1
+    ∙ after_turn form parents w terms left (Whole is.0) (told.1 ∙ ap Done is.1)
+    ∙ all in
+    let p = err_from_is_err_and c.from_residual-in_err-tested-in-Whole.result
+    c.from_residual-in_err-tested-in-Whole.ensures.1 in
+    refusal_of (λ (_ : Unit {0}) tree. tree ≡ tree_of new c.in-Whole.id) (IsAt new w)
+    (tested (tree_of new c.in-Whole.id)) whole
+    c.in_err-tested-in-Whole.field-0.0 p.0 c.from_residual-in_err-tested-in-Whole.result
+    c.in_err-tested-in-Whole.ensures same p.1 p.2
+
+pub gathered-returns-in-Whole-clause-tree : goal.gathered-returns-in-Whole-clause-tree
+gathered-returns-in-Whole-clause-tree t c =
+    let parents = c.args.nest.now in
+    let form = former parents c.args.at in
+    let w = c.args.at.width.bits in
+    let first = c.args.arena.now in
+    let old = c.loop-terms.arena in
+    let new = c.gather_once.new.arena in
+    let left = c.loop-terms.left in
+    let terms = terms_at (meanings old) c.as_slice.result.now in
+    let found = deepest parents (loops_of_terms terms) in
+    let slice = ap (terms_at (meanings old)) c.as_slice.ensures in
+    let all = ap (gathered form parents w (suc left)) slice ∙ c.loop-terms.invariant.same in
+    let whole = gathered form parents w (suc (length parents)) (terms_at (meanings first) c.args.terms) in
+    let told = c.in_ok-gather_once.ensures.gathering in
+    let is = subst (λ g. IsGathering new w terms g told.0) c.in-Whole.is told.2 in
+    let same : tested (tree_of new c.in-Whole.id) ≡ whole =
+    ap tested is.2.1
+    ∙ after_turn form parents w terms left (Whole is.0) (told.1 ∙ ap Done is.1)
+    ∙ all in
+    let seen = c.in_ok-tested-in-Whole.ensures in
+    (seen.0, sym same ∙ seen.1, (is.2.0, sym seen.2))
+
+pub gathered-are_same-requires-clause-right : goal.gathered-are_same-requires-clause-right
+gathered-are_same-requires-clause-right t c =
+    let new = c.gather_once.new.arena in
+    let w = c.args.at.width.bits in
+    subst (IsPolynomial new w) (sym c.as_slice-in-Again-2.ensures)
+    (polynomial_goes_on c.loop-terms.arena new c.gather_once.ensures.grows w c.loop-terms.terms
+    c.loop-terms.invariant.polynomial)
+
+pub gathered-tested_terms-requires-then-are_same : goal.gathered-tested_terms-requires-then-are_same
+gathered-tested_terms-requires-then-are_same t c =
+    polynomial_goes_on c.loop-terms.arena c.gather_once.new.arena c.gather_once.ensures.grows c.args.at.width.bits
+    c.loop-terms.terms c.loop-terms.invariant.polynomial
+
+pub gathered-returns-then-are_same-clause-tree : goal.gathered-returns-then-are_same-clause-tree
+gathered-returns-then-are_same-clause-tree t c =
+    let parents = c.args.nest.now in
+    let form = former parents c.args.at in
+    let w = c.args.at.width.bits in
+    let first = c.args.arena.now in
+    let old = c.loop-terms.arena in
+    let new = c.gather_once.new.arena in
+    let left = c.loop-terms.left in
+    let terms = terms_at (meanings old) c.as_slice.result.now in
+    let found = deepest parents (loops_of_terms terms) in
+    let slice = ap (terms_at (meanings old)) c.as_slice.ensures in
+    let all = ap (gathered form parents w (suc left)) slice ∙ c.loop-terms.invariant.same in
+    let whole = gathered form parents w (suc (length parents)) (terms_at (meanings first) c.args.terms) in
+    let told = c.in_ok-gather_once.ensures.gathering in
+    let is = subst (λ g. IsGathering new w terms g told.0) c.in-Again.is told.2 in
+    let stays : terms_at (meanings new) c.loop-terms.terms ≡ terms =
+    same_terms_go_on old new c.gather_once.ensures.grows w c.loop-terms.terms c.loop-terms.invariant.polynomial.over
+    ∙ sym slice in
+    let more = terms_at (meanings new) c.in-Again.more in
+    let compared : same_tree (polynomial w more) (polynomial w terms) ≡ c.are_same.result =
+    sym (
+    c.are_same.ensures
+    ∙ ap (λ ts. same_tree (polynomial w (terms_at (meanings new) ts))
+    (polynomial w (terms_at (meanings new) c.as_slice-in-Again-2.result.now))) c.as_slice-in-Again.ensures
+    ∙ ap (λ ts. same_tree (polynomial w more) (polynomial w ts))
+    (ap (terms_at (meanings new)) c.as_slice-in-Again-2.ensures ∙ stays)
+    ) in
+    told_same (IsAt c.tested_terms-then-are_same.new.arena w)
+    (tested (polynomial w (terms_at (meanings new) c.loop-terms.terms))) whole c.tested_terms-then-are_same.result
+    (
+    ap (λ ts. tested (polynomial w ts)) stays
+    ∙ same_again form parents w terms left more (told.1 ∙ ap Done is.0) (compared ∙ c.if-are_same.true)
+    ∙ all
+    )
+    c.tested_terms-then-are_same.ensures.tree
+
+pub gathered-returns-then-left-eq0-clause-tree : goal.gathered-returns-then-left-eq0-clause-tree
+gathered-returns-then-left-eq0-clause-tree t c =
+    let parents = c.args.nest.now in
+    let form = former parents c.args.at in
+    let w = c.args.at.width.bits in
+    let first = c.args.arena.now in
+    let old = c.loop-terms.arena in
+    let new = c.gather_once.new.arena in
+    let left = c.loop-terms.left in
+    let terms = terms_at (meanings old) c.as_slice.result.now in
+    let found = deepest parents (loops_of_terms terms) in
+    let slice = ap (terms_at (meanings old)) c.as_slice.ensures in
+    let all = ap (gathered form parents w (suc left)) slice ∙ c.loop-terms.invariant.same in
+    let whole = gathered form parents w (suc (length parents)) (terms_at (meanings first) c.args.terms) in
+    let told = c.in_ok-gather_once.ensures.gathering in
+    let is = subst (λ g. IsGathering new w terms g told.0) c.in-Again.is told.2 in
+    let stays : terms_at (meanings new) c.loop-terms.terms ≡ terms =
+    same_terms_go_on old new c.gather_once.ensures.grows w c.loop-terms.terms c.loop-terms.invariant.polynomial.over
+    ∙ sym slice in
+    let more = terms_at (meanings new) c.in-Again.more in
+    let compared : same_tree (polynomial w more) (polynomial w terms) ≡ c.are_same.result =
+    sym (
+    c.are_same.ensures
+    ∙ ap (λ ts. same_tree (polynomial w (terms_at (meanings new) ts))
+    (polynomial w (terms_at (meanings new) c.as_slice-in-Again-2.result.now))) c.as_slice-in-Again.ensures
+    ∙ ap (λ ts. same_tree (polynomial w more) (polynomial w ts))
+    (ap (terms_at (meanings new)) c.as_slice-in-Again-2.ensures ∙ stays)
+    ) in
+    told_same (IsAt c.tested_terms-then-left-eq0.new.arena w)
+    (tested (polynomial w more)) whole c.tested_terms-then-left-eq0.result
+    (
+    no_turn form parents w more left c.if-left-eq0.true
+    ∙ other_again form parents w terms left more (told.1 ∙ ap Done is.0) (compared ∙ c.if-are_same.false)
+    ∙ all
+    )
+    c.tested_terms-then-left-eq0.ensures.tree
+
+pub gathered-loop-terms-preserved : goal.gathered-loop-terms-preserved
+gathered-loop-terms-preserved t c =
+    let parents = c.args.nest.now in
+    let form = former parents c.args.at in
+    let w = c.args.at.width.bits in
+    let first = c.args.arena.now in
+    let old = c.loop-terms.arena in
+    let new = c.gather_once.new.arena in
+    let left = c.loop-terms.left in
+    let terms = terms_at (meanings old) c.as_slice.result.now in
+    let found = deepest parents (loops_of_terms terms) in
+    let slice = ap (terms_at (meanings old)) c.as_slice.ensures in
+    let all = ap (gathered form parents w (suc left)) slice ∙ c.loop-terms.invariant.same in
+    let whole = gathered form parents w (suc (length parents)) (terms_at (meanings first) c.args.terms) in
+    let told = c.in_ok-gather_once.ensures.gathering in
+    let is = subst (λ g. IsGathering new w terms g told.0) c.in-Again.is told.2 in
+    let stays : terms_at (meanings new) c.loop-terms.terms ≡ terms =
+    same_terms_go_on old new c.gather_once.ensures.grows w c.loop-terms.terms c.loop-terms.invariant.polynomial.over
+    ∙ sym slice in
+    let more = terms_at (meanings new) c.in-Again.more in
+    let compared : same_tree (polynomial w more) (polynomial w terms) ≡ c.are_same.result =
+    sym (
+    c.are_same.ensures
+    ∙ ap (λ ts. same_tree (polynomial w (terms_at (meanings new) ts))
+    (polynomial w (terms_at (meanings new) c.as_slice-in-Again-2.result.now))) c.as_slice-in-Again.ensures
+    ∙ ap (λ ts. same_tree (polynomial w more) (polynomial w ts))
+    (ap (terms_at (meanings new)) c.as_slice-in-Again-2.ensures ∙ stays)
+    ) in
+    let fewer : suc (left - 1) ≡ left = omega (arith, c.if-left-eq0.false) in record {
+      grows = goes_on_again first old new c.loop-terms.invariant.grows c.gather_once.ensures.grows;
+      polynomial = is.1;
+      same = ap (λ n. gathered form parents w n more) fewer
+          ∙ other_again form parents w terms left more (told.1 ∙ ap Done is.0) (compared ∙ c.if-are_same.false)
+          ∙ all;
+    }
