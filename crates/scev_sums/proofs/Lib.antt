@@ -1,3 +1,4 @@
+pub mod Beside
 pub mod Gathered
 pub mod Groups
 pub mod Growth
