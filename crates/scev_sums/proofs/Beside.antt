@@ -1,21 +1,17 @@
 -- What a recurrence becomes beside other terms.
 use Rattle.std.proofs.Common.{◌≡◌, ℕ, suc, ◌<◌, ◌≤◌, inl, inr, false, ◌==◌, List, [], ◌∷◌, ◌++◌, length}
-use Rattle.std.proofs.Common.{get_or, Some, slice_get, refl, sym, ap, ◌∙◌, subst, arith}
+use Rattle.std.proofs.Common.{get_or, refl, sym, ap, ◌∙◌, subst, arith}
 use Rattle.std.proofs.lemmas.Bool.{false≢true}
 use Rattle.std.proofs.lemmas.List.{append-nil}
 use Rattle.scev_base.specs.declared.ids.ExprId.{ExprId}
-use Rattle.scev_base.specs.declared.width.Width.{Width}
-use Rattle.scev_tree.specs.declared.kind.Kind.{Kind}
 use Rattle.scev_tree.specs.declared.kind.Kind.TheVariants as kind
 use Rattle.scev_tree.specs.Tree.{Tree, Terms, polynomial, no_terms, term, no_factors, factor, atom, parts_of, of_atom}
 use Rattle.scev_tree.specs.Canonical.{HaveWidth}
 use Rattle.scev_tree.specs.Order.{count_parts}
 use Rattle.poly_terms.specs.declared.term.Term.{Term}
 use Rattle.scev_arena.specs.declared.node.Node.{Node}
-use Rattle.scev_arena.specs.declared.node.Node.TheVariants as node
-use Rattle.scev_arena.specs.Meaning.{meanings, terms_at, tree_of, atom_of, atom_in}
-use Rattle.scev_arena.specs.Standing.{AreTrees, IsGrown, IsArena}
-use Rattle.scev_arena.proofs.WellMade.{well_made}
+use Rattle.scev_arena.specs.Meaning.{meanings, terms_at, tree_of}
+use Rattle.scev_arena.specs.Standing.{AreTrees, IsGrown}
 use Rattle.scev_forms.specs.Polynomials.{terms_of, terms_sum}
 use Rattle.scev_forms.specs.Sums.{Whole, Again, beside}
 use Rattle.scev_sums.specs.Answers.{GoesOn, AreTreesOfAt, trees_at}
@@ -37,14 +33,6 @@ module _ (nodes : List Node) (w : ℕ) where
   pub as_many_parts : (ids : List ExprId) → count_parts (parts_of (trees_at nodes ids)) ≡ length ids
   as_many_parts [] = refl
   as_many_parts (id ∷ ids) = ap suc (as_many_parts ids)
-
--- an atom that was put into an arena stands for itself there
-pub atom_there : (nodes : List Node) (id : ExprId) (k : Kind) (width : Width) (parts : List ExprId)
-    → IsArena nodes
-    → slice_get nodes id.0 ≡ Some (node.Atom k width parts)
-    → atom_of nodes id ≡ atom k width.bits (parts_of (trees_at nodes parts))
-atom_there nodes id k width parts arena e =
-    ap atom_in ((well_made nodes arena).holds id.0 (node.Atom k width parts) e)
 
 module _ (w l : ℕ) (others : Terms) where
   -- no part: the others stand alone

@@ -1,15 +1,15 @@
 use Rattle.std.proofs.Common.{◌≡◌, length, refl, sym, ap, ◌∙◌, subst, arith}
 use Rattle.poly_terms.proofs.ResultLemmas.{still_ok}
-use Rattle.scev_tree.specs.Canonical.{HaveWidth}
 use Rattle.scev_tree.specs.Tree.{Terms, no_terms, polynomial, atom, of_atom, parts_of}
 use Rattle.scev_tree.specs.declared.kind.Kind.TheVariants as kind
-use Rattle.scev_arena.specs.Meaning.{meanings, terms_at, atom_of}
-use Rattle.scev_arena.specs.Standing.{AreTrees}
+use Rattle.scev_arena.specs.declared.node.Node.TheVariants as node
+use Rattle.scev_arena.specs.Meaning.{meanings, terms_at}
 use Rattle.scev_forms.specs.Polynomials.{terms_sum}
 use Rattle.scev_forms.specs.Sums.{Whole, Again, beside}
+use Rattle.scev_walk.proofs.Places.{atom_is}
 use Rattle.scev_sums.specs.Answers.{AreTreesOfAt, trees_at}
 use Rattle.scev_sums.specs.Levels.{IsGathering}
-use Rattle.scev_sums.proofs.Beside.{grown_goes_on, are_trees, have_width, as_many_parts, atom_there}
+use Rattle.scev_sums.proofs.Beside.{grown_goes_on, are_trees, have_width, as_many_parts}
 use Rattle.scev_sums.proofs.Beside.{beside_none, beside_one, beside_many}
 use Rattle.scev_sums.proofs.Growth.{same_trees_go_on, same_terms_go_on, polynomial_goes_on}
 use Rattle.scev_sums.proofs.sums.beside.Goals as goal
@@ -77,8 +77,8 @@ returns-in_ok-rec-in_default-clause-gathering c =
     let is : polynomial w rec ≡ of_atom w (atom (kind.Rec c.args.l) w (parts_of (trees_at old parts))) =
     ap (λ ts. polynomial w (terms_at (meanings nodes) ts)) c.as_slice.ensures
     ∙ c.in_ok-rec-in_default.ensures.atom
-    ∙ ap (of_atom w) (atom_there nodes id (kind.Rec c.args.l) c.args.w items c.intern.ensures.arena
-    c.in_ok-atom-in_default.ensures.place)
+    ∙ ap (of_atom w) (atom_is nodes id (node.Atom (kind.Rec c.args.l) c.args.w items) c.intern.ensures.arena
+    c.in_ok-atom-in_default.ensures.place (kind.Rec c.args.l) c.args.w items refl)
     ∙ ap (λ ts. of_atom w (atom (kind.Rec c.args.l) w (parts_of ts))) trees in
     let whole = ap (λ ts. Whole (polynomial w (terms_sum w rec ts))) stays
     ∙ beside_many w l others old parts rec c.in_default.len_at_least is in
