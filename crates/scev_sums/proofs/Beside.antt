@@ -1,11 +1,11 @@
 -- What a recurrence becomes beside other terms.
-use Rattle.std.proofs.Common.{◌≡◌, ℕ, suc, ◌<◌, ◌≤◌, inl, inr, false, ◌==◌, List, [], ◌∷◌, ◌++◌, length}
+use Rattle.std.proofs.Common.{◌≡◌, ℕ, suc, ◌<◌, ◌≤◌, inl, inr, false, ◌==◌, List, [], ◌∷◌, length}
 use Rattle.std.proofs.Common.{get_or, refl, sym, ap, ◌∙◌, subst, arith}
 use Rattle.std.proofs.lemmas.Bool.{false≢true}
 use Rattle.std.proofs.lemmas.List.{append-nil}
 use Rattle.scev_base.specs.declared.ids.ExprId.{ExprId}
 use Rattle.scev_tree.specs.declared.kind.Kind.TheVariants as kind
-use Rattle.scev_tree.specs.Tree.{Tree, Terms, polynomial, no_terms, term, no_factors, factor, atom, parts_of, of_atom}
+use Rattle.scev_tree.specs.Tree.{Terms, polynomial, no_terms, atom, parts_of, of_atom}
 use Rattle.scev_tree.specs.Canonical.{HaveWidth}
 use Rattle.scev_tree.specs.Order.{count_parts}
 use Rattle.poly_terms.specs.declared.term.Term.{Term}

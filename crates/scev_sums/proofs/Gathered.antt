@@ -6,7 +6,6 @@ use Rattle.scev_forms.specs.Outcome.{Outcome, Done, next, tested}
 use Rattle.scev_forms.specs.Gather.{deepest, loops_of_terms, joining, staying}
 use Rattle.scev_forms.specs.Sums.{Gathering, Whole, Again, same_tree, beside, group_parts, is_settled}
 use Rattle.scev_forms.specs.Sums.{gathering, gathering_at, after_gathering, gathered, formed}
-use Rattle.scev_sums.proofs.Refusals.{next_of}
 
 module _ (parents : List (Option ℕ)) (w loops : ℕ) (terms : Terms) where
   -- at no level the tree is that of the polynomial
@@ -67,7 +66,8 @@ module _ (form : Terms → Outcome Tree) (parents : List (Option ℕ)) (w : ℕ)
 
     pub after_turn : (given : Gathering) → step ≡ Done given
         → after_gathering (gathered form parents w times) w terms given ≡ gathered form parents w (suc times) terms
-    after_turn given e = sym (next_of step (after_gathering (gathered form parents w times) w terms) given e) ∙ one_turn
+    after_turn given e =
+        sym (ap (λ o. next o (after_gathering (gathered form parents w times) w terms)) e) ∙ one_turn
 
     -- a step that gave the same polynomial is the last
     pub same_again : (more : Terms) → step ≡ Done (Again more)

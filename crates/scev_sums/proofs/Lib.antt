@@ -7,3 +7,4 @@ pub mod Recurrences
 pub mod Refusals
 pub mod SameTerms
 pub mod Telling
+pub mod Turns

@@ -1,19 +1,20 @@
 -- How the steps of a plan are formed over the places of an arena.
-use Rattle.std.proofs.Common.{◌≡◌, ℕ, zero, suc, ◌+◌, ◌<◌, ◌≤◌, List, [], ◌∷◌, ◌++◌, length, map, get_or, drop, refl}
+use Rattle.std.proofs.Common.{◌≡◌, ℕ, zero, suc, ◌+◌, ◌<◌, List, [], ◌∷◌, ◌++◌, length, map, get_or, drop}
 use Rattle.std.proofs.Common.{sym, ap, ◌∙◌, subst, arith, drop-cons, add-one}
-use Rattle.std.proofs.lemmas.List.{map-append, drop_all, get_or-map}
+use Rattle.std.proofs.lemmas.List.{map-append}
 use Rattle.rec_algebra.specs.declared.plan.PlanStep.{PlanStep}
-use Rattle.rec_algebra.specs.declared.plan.PlanStep.TheVariants as step
 use Rattle.rec_algebra.specs.Plans.{Plan, NamesEarlier, IsStepBelow}
 use Rattle.scev_base.specs.declared.ids.ExprId.{ExprId}
-use Rattle.scev_tree.specs.Tree.{Tree, Terms, constant}
+use Rattle.scev_tree.specs.Tree.{Tree, Terms}
 use Rattle.scev_arena.specs.declared.node.Node.{Node}
 use Rattle.scev_arena.specs.Meaning.{tree_of}
+use Rattle.scev_arena.proofs.PlacesStay.{length_behind}
 use Rattle.scev_forms.specs.Outcome.{Outcome, Done, next}
 use Rattle.scev_forms.specs.Gather.{trimmed}
 use Rattle.scev_forms.specs.Sums.{at_place, step_by, places_by, tested_parts, carried_by}
-use Rattle.scev_sums.specs.Answers.{GoesOn, IsTreeOfAt, AreTreesOfAt, trees_at}
-use Rattle.scev_sums.proofs.Growth.{wide_goes_on, trees_go_on, same_trees_go_on}
+use Rattle.scev_sums.specs.Answers.{GoesOn, IsAt, IsTreeOfAt, AreTreesOfAt, trees_at}
+use Rattle.scev_sums.proofs.Growth.{goes_on_again, trees_go_on, same_trees_go_on}
+use Rattle.scev_sums.proofs.Refusals.{LeadsOn, led_on}
 
 -- what is left of a list begins with the item there
 pub drop_next : {X : Type 0} (xs : List X) (i : ℕ) (other : X) → i < length xs
@@ -31,12 +32,6 @@ module _ (nodes : List Node) (w : ℕ) where
   tree_within [] k other h within = absurd (omega arith)
   tree_within (id ∷ ids) zero other h within = h.0
   tree_within (id ∷ ids) (suc k) other h within = tree_within ids k other h.1 (omega arith)
-
-  -- and it is the one of its place
-  pub tree_there : (places : List ExprId) (k : ℕ) (other : ExprId) → k < length places
-      → at_place w (trees_at nodes places) k ≡ tree_of nodes (get_or places k other)
-  tree_there places k other within =
-      get_or-map (tree_of nodes) places k other (constant w 0) within
 
   pub both_hold : (xs ys : List ExprId) → AreTreesOfAt nodes w xs → AreTreesOfAt nodes w ys
       → AreTreesOfAt nodes w (xs ++ ys)
@@ -56,44 +51,70 @@ module _ (old new : List Node) (grows : GoesOn old new) (w : ℕ) (places : List
 
 -- ---- steps
 
-module _ (form : Terms → Outcome Tree) (w : ℕ) where
+-- What the steps that are left form of the places so far is the whole.
+pub record IsPlacing (form : Terms → Outcome Tree) (w : ℕ) (whole : Outcome (List Tree)) (first old : List Node)
+    (places : List ExprId) (steps : List PlanStep) : Type 0 where
+  pub grows : GoesOn first old
+  pub trees : AreTreesOfAt old w places
+  pub earlier : NamesEarlier (length places) steps
+  pub same : places_by form w steps (trees_at old places) ≡ whole
+
+module _ {form : Terms → Outcome Tree} {w : ℕ} {whole : Outcome (List Tree)} {first old : List Node}
+    {places : List ExprId} {steps : List PlanStep} (placing : IsPlacing form w whole first old places steps) where
   -- no step is left
-  pub no_step_left : (steps : List PlanStep) (i : ℕ) (places : List Tree) → length steps ≤ i
-      → places_by form w (drop i steps) places ≡ Done places
+  pub all_placed : steps ≡ [] → whole ≡ Done (trees_at old places)
   unfolding places_by
-  no_step_left steps i places h = ap (λ l. places_by form w l places) (drop_all i steps h)
+  all_placed e = sym placing.same ∙ ap (λ l. places_by form w l (trees_at old places)) e
 
-  -- the next step is taken, and then those that are left
-  pub next_step : (steps : List PlanStep) (i : ℕ) (other : PlanStep) (places : List Tree) → i < length steps
-      → next (step_by form w places (get_or steps i other))
-      (λ tree. places_by form w (drop (i + 1) steps) (places ++ tree ∷ []))
-      ≡ places_by form w (drop i steps) places
-  unfolding places_by
-  next_step steps i other places h = ap (λ l. places_by form w l places) (sym (drop_next steps i other h))
+  pub places_held : {slice : List ExprId} → slice ≡ places → AreTreesOfAt old w slice
+  places_held is = subst (AreTreesOfAt old w) (sym is) placing.trees
 
-  -- what the next step formed stands at one place more
-  pub step_taken : (steps : List PlanStep) (i : ℕ) (other : PlanStep) (old new : List Node) (places : List ExprId)
-      (id : ExprId)
-      → i < length steps
-      → GoesOn old new
-      → AreTreesOfAt old w places
-      → step_by form w (trees_at old places) (get_or steps i other) ≡ Done (tree_of new id)
-      → places_by form w (drop (i + 1) steps) (trees_at new (places ++ id ∷ []))
-      ≡ places_by form w (drop i steps) (trees_at old places)
-  step_taken steps i other old new places id h grows held e =
-      ap (places_by form w (drop (i + 1) steps)) (more_trees old new grows w places id held)
-      ∙ sym (ap (λ o. next o (λ tree. places_by form w (drop (i + 1) steps) (trees_at old places ++ tree ∷ []))) e)
-      ∙ next_step steps i other (trees_at old places) h
+  module _ {following : PlanStep} {others : List PlanStep} (left : steps ≡ following ∷ others)
+      {slice : List ExprId} (is : slice ≡ places) where
+    earlier : NamesEarlier (length places) (following ∷ others)
+    earlier = subst (NamesEarlier (length places)) left placing.earlier
 
-  -- ---- plans
+    pub step_below : IsStepBelow (length slice) following
+    step_below = subst (λ ids. IsStepBelow (length ids) following) (sym is) earlier.0
 
-  -- a plan is carried out over its places
-  pub carried_out : (l : ℕ) (plan : Plan) (steps : List PlanStep) (operands : List Tree)
-      → steps ≡ plan.steps
-      → next (places_by form w steps operands) (λ places.
-      tested_parts w l (trimmed (map (at_place w places) plan.results)))
-      ≡ carried_by form w l plan operands
-  unfolding carried_by
-  carried_out l plan steps operands e =
-      ap (λ l'. next (places_by form w l' operands) (λ places.
-      tested_parts w l (trimmed (map (at_place w places) plan.results)))) e
+    -- the next step leads on to the whole
+    pub step_leads : LeadsOn (step_by form w (trees_at old slice) following)
+        (λ tree. places_by form w others (trees_at old places ++ tree ∷ [])) whole
+    unfolding places_by
+    step_leads = record {
+      leads = ap (λ ids. next (step_by form w (trees_at old ids) following)
+          (λ tree. places_by form w others (trees_at old places ++ tree ∷ []))) is
+          ∙ ap (λ l. places_by form w l (trees_at old places)) (sym left)
+          ∙ placing.same;
+    }
+
+    -- what it formed stands at one place more
+    pub placed : {new : List Node} → GoesOn old new
+        → (id : ExprId)
+        → (tree : Tree) × (step_by form w (trees_at old slice) following ≡ Done tree) × IsAt new w id tree
+        → {more : List ExprId}
+        → more ≡ places ++ id ∷ []
+        → IsPlacing form w whole first new more others
+    placed {new} grows id told e =
+        let count = ap length e ∙ length_behind places id in record {
+          grows = goes_on_again first old new placing.grows grows;
+          trees = subst (AreTreesOfAt new w) (sym e) (more_held old new grows w places id placing.trees told.2.0);
+          earlier = subst (λ n. NamesEarlier n others) (sym count) earlier.1;
+          same = ap (λ ids. places_by form w others (trees_at new ids)) e
+              ∙ ap (places_by form w others) (more_trees old new grows w places id placing.trees)
+              ∙ ap (λ tree. places_by form w others (trees_at old places ++ tree ∷ [])) told.2.1
+              ∙ led_on told.0 step_leads told.1;
+        }
+
+-- ---- plans
+
+-- the places of a plan lead on to its parts
+pub plan_leads : (form : Terms → Outcome Tree) (w l : ℕ) (plan : Plan) (operands : List Tree) {steps : List PlanStep}
+    → steps ≡ plan.steps
+    → LeadsOn (places_by form w steps operands)
+    (λ places. tested_parts w l (trimmed (map (at_place w places) plan.results))) (carried_by form w l plan operands)
+unfolding carried_by
+plan_leads form w l plan operands e = record {
+  leads = ap (λ l'. next (places_by form w l' operands) (λ places.
+      tested_parts w l (trimmed (map (at_place w places) plan.results)))) e;
+}

@@ -1,5 +1,5 @@
 -- Polynomials over an arena are one tree exactly where their terms are equal.
-use Rattle.std.proofs.Common.{◌≡◌, ℕ, true, ◌==◌, List, [], ◌∷◌, refl, sym, ap, ◌∙◌, subst}
+use Rattle.std.proofs.Common.{◌≡◌, ℕ, true, ◌==◌, List, [], ◌∷◌, refl, ap, ◌∙◌, subst}
 use Rattle.std.specs.Bool.{Decides}
 use Rattle.std.specs.Cmp.Lexicographic.{pointwise}
 use Rattle.std.proofs.lemmas.Bool.Decides.{Decides-eqb, Decides-and, same_from_decides}
@@ -7,8 +7,8 @@ use Rattle.std.proofs.lemmas.Slice.Eq.{slice_eq-Decides}
 use Rattle.scev_base.specs.declared.ids.ExprId.{ExprId}
 use Rattle.poly_terms.specs.declared.term.Term.{Term}
 use Rattle.poly_terms.specs.contracts.term.TermPartialEq.TheImpl.{eq-value}
-use Rattle.scev_tree.specs.Tree.{Terms, polynomial}
-use Rattle.scev_tree.specs.Order.{tree_code, same_code}
+use Rattle.scev_tree.specs.Tree.{polynomial}
+use Rattle.scev_tree.specs.Order.{tree_code}
 use Rattle.scev_tree.proofs.Codes.{one_tree}
 use Rattle.scev_tree.proofs.Lower.{told_same, same_itself}
 use Rattle.scev_arena.specs.declared.node.Node.{Node}
@@ -77,11 +77,11 @@ module _ (nodes : List Node) (arena : IsArena nodes) (w : ℕ) where
       let a = polynomial w (terms_at (meanings nodes) ss) in
       let b = polynomial w (terms_at (meanings nodes) ts) in (
         (λ h.
-        let whole = one_tree a b (told_same (tree_code a) (tree_code b) h) in
-        let e : terms_at (meanings nodes) ss ≡ terms_at (meanings nodes) ts = cc whole in
-        one_list_of_terms ss ts hs ht e),
+            let whole = one_tree a b (told_same (tree_code a) (tree_code b) h) in
+            let e : terms_at (meanings nodes) ss ≡ terms_at (meanings nodes) ts = cc whole in
+            one_list_of_terms ss ts hs ht e),
         (λ e. subst (λ l. same_tree a (polynomial w (terms_at (meanings nodes) l)) ≡ true) e
-        (same_itself (tree_code a))),
+            (same_itself (tree_code a))),
       )
 
   pub terms_tell : (ss ts : List Term) → IsPolynomial nodes w ss → IsPolynomial nodes w ts

@@ -1,5 +1,5 @@
-//! Sums, products and recurrences as they are formed. A call forms trees that it needs by calls at the level below, where
-//! one loop less has recurrences; so all of them end.
+//! Sums, products and recurrences as they are formed. A call forms trees that it needs by calls at the level below,
+//! where one loop less has recurrences; so all of them end.
 
 ghost use Rattle.std.specs.Prelude.{◌≡◌, ℕ, suc, ◌+◌, ◌≤◌, length, map, IfOk};
 ghost use Rattle.scev_tree.specs.Tree as tree;
@@ -306,11 +306,7 @@ fn parts_times(
 }
 
 /// The plan of the product of two recurrences of a loop, by their parts.
-fn plan_of_product(
-    alloc: Global,
-    left: &[ExprId],
-    right: &[ExprId],
-) -> Result<Plan, AllocError>
+fn plan_of_product(alloc: Global, left: &[ExprId], right: &[ExprId]) -> Result<Plan, AllocError>
     requires left { 1 ≤ length left.now }
     requires right { 1 ≤ length right.now }
     ensures plan { IfOk result (λ plan. plan ≡ product_plan (length left.now) (length right.now)) }

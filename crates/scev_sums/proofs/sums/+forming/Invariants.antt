@@ -1,10 +1,12 @@
-use Rattle.std.proofs.Common.{◌≡◌, suc, ◌+◌, ◌*◌, ◌≤◌, length, map, drop}
-use Rattle.rec_algebra.specs.Plans.{NamesEarlier}
+use Rattle.std.proofs.Common.{◌≡◌, suc, ◌+◌, ◌*◌, length, map, drop}
 use Rattle.scev_arena.specs.Meaning.{meanings, terms_at}
 use Rattle.scev_forms.specs.Sums as forms
-use Rattle.scev_polys.specs.Polynomials.{IsPolynomial}
-use Rattle.scev_sums.specs.Answers.{GoesOn, AreAll, AreTreesOfAt, trees_at}
-use Rattle.scev_sums.specs.Levels.{former, IsRecurrence}
+use Rattle.scev_sums.specs.Answers.{trees_at}
+use Rattle.scev_sums.specs.Levels.{former}
+use Rattle.scev_sums.proofs.Groups.{IsAdding}
+use Rattle.scev_sums.proofs.Placing.{IsPlacing}
+use Rattle.scev_sums.proofs.Recurrences.{IsMultiplying}
+use Rattle.scev_sums.proofs.Turns.{IsTurning}
 use Rattle.scev_sums.proofs.sums.+forming.Given as goal
 
 -- A call at the level below begins at the highest rank again; all others go to a lower rank at the same level.
@@ -58,48 +60,32 @@ abbrev pub invariant-places_of-loop-step : goal.invariant-places_of-loop-step
 invariant-places_of-loop-step l =
     let form = former l.nest l.at in
     let w = l.at.width.bits in record {
-      grows : GoesOn l.fn.arena l.arena;
-      trees : AreTreesOfAt l.arena w l.places.items;
+      placing : IsPlacing form w (forms.places_by form w l.steps (trees_at l.fn.arena l.fn.operands.items)) l.fn.arena
+          l.arena l.places.items (drop l.step-index l.steps);
       count : length l.places.items ≡ length l.fn.operands.items + l.step-index;
-      earlier : NamesEarlier (length l.places.items) (drop l.step-index l.steps);
-      same : forms.places_by form w (drop l.step-index l.steps) (trees_at l.arena l.places.items)
-      ≡ forms.places_by form w l.steps (trees_at l.fn.arena l.fn.operands.items);
     }
 
 abbrev pub invariant-parts_times-loop-rec : goal.invariant-parts_times-loop-rec
 invariant-parts_times-loop-rec l =
     let form = former l.nest l.at in
-    let w = l.at.width.bits in record {
-      grows : GoesOn l.fn.arena l.arena;
-      trees : AreTreesOfAt l.arena w l.parts.items;
-      some : 1 ≤ length l.parts.items;
-      recs : AreAll (IsRecurrence l.fn.arena w) (drop l.rec-index l.recs);
-      same : forms.parts_times form w l.l.0 (trees_at l.arena l.parts.items)
-      (map (trees_at l.fn.arena) (drop l.rec-index l.recs))
-      ≡ forms.parts_times form w l.l.0 (trees_at l.fn.arena l.fn.first) (map (trees_at l.fn.arena) l.recs);
-    }
+    let w = l.at.width.bits in
+    IsMultiplying form w l.l.0
+    (forms.parts_times form w l.l.0 (trees_at l.fn.arena l.fn.first) (map (trees_at l.fn.arena) l.recs))
+    l.fn.arena l.arena l.parts.items (drop l.rec-index l.recs)
 
 abbrev pub invariant-group_parts-loop-term : goal.invariant-group_parts-loop-term
 invariant-group_parts-loop-term l =
     let form = former l.nest l.at in
-    let w = l.at.width.bits in record {
-      grows : GoesOn l.fn.arena l.arena;
-      trees : AreTreesOfAt l.arena w l.parts.items;
-      left : IsPolynomial l.fn.arena w (drop l.term-index l.others);
-      same : forms.parts_plus form w l.l.0 (trees_at l.arena l.parts.items)
-      (terms_at (meanings l.fn.arena) (drop l.term-index l.others))
-      ≡ forms.group_parts form w l.l.0 (terms_at (meanings l.fn.arena) l.fn.group);
-    }
+    let w = l.at.width.bits in
+    IsAdding form w l.l.0 (forms.group_parts form w l.l.0 (terms_at (meanings l.fn.arena) l.fn.group))
+    l.fn.arena l.arena l.parts.items (drop l.term-index l.others)
 
 abbrev pub decreases-gathered-loop-terms : goal.decreases-gathered-loop-terms
 decreases-gathered-loop-terms l = l.left
 
 abbrev pub invariant-gathered-loop-terms : goal.invariant-gathered-loop-terms
 invariant-gathered-loop-terms l =
-    let form = former l.nest l.at in
-    let w = l.at.width.bits in record {
-      grows : GoesOn l.fn.arena l.arena;
-      polynomial : IsPolynomial l.arena w l.terms;
-      same : forms.gathered form l.nest w (suc l.left) (terms_at (meanings l.arena) l.terms)
-      ≡ forms.gathered form l.nest w (suc (length l.nest)) (terms_at (meanings l.fn.arena) l.fn.terms);
-    }
+    IsTurning (former l.nest l.at) l.nest l.at.width.bits
+    (forms.gathered (former l.nest l.at) l.nest l.at.width.bits (suc (length l.nest))
+    (terms_at (meanings l.fn.arena) l.fn.terms))
+    l.fn.arena l.arena l.terms l.left

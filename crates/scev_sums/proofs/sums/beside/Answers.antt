@@ -20,9 +20,13 @@ intern-requires c =
     let w = c.args.w.bits in
     let parts = c.in_ok-from_slice-in_default.field-0 in
     let is : parts ≡ c.args.parts.now = c.in_ok-from_slice-in_default.ensures in
-    let held = subst (AreTreesOfAt nodes w) (sym is) c.requires.parts in
-    (are_trees nodes w parts held,
-    (omega (arith, as_many_parts nodes w parts, ap length is, c.in_default.len_at_least), have_width nodes w parts held))
+    let held = subst (AreTreesOfAt nodes w) (sym is) c.requires.parts in (
+      are_trees nodes w parts held,
+      (
+        omega (arith, as_many_parts nodes w parts, ap length is, c.in_default.len_at_least),
+        have_width nodes w parts held,
+      ),
+    )
 
 pub whole_of-requires-in_default-clause-others : goal.whole_of-requires-in_default-clause-others
 whole_of-requires-in_default-clause-others c =
@@ -51,10 +55,12 @@ returns-in_ok-more-in-len1-2-clause-gathering c = λ terms.
     let nodes = c.args.arena.now in
     let others = terms_at (meanings nodes) c.args.others.now in
     let more = c.in_ok-more-in-len1-2.ensures in
-    let mine = terms_at (meanings nodes) c.terms_of.result.now in
-    (beside_one c.args.w.bits c.args.l.0 others nodes c.args.parts.now c.args.others.now mine c.in-len1.len_at_least
-    c.in-len1.len_below (sym c.is_empty.ensures ∙ c.if-is_empty.false) refl c.terms_of.ensures.terms
-    ∙ ap Again (sym more.sum), more.polynomial)
+    let mine = terms_at (meanings nodes) c.terms_of.result.now in (
+      beside_one c.args.w.bits c.args.l.0 others nodes c.args.parts.now c.args.others.now mine c.in-len1.len_at_least
+          c.in-len1.len_below (sym c.is_empty.ensures ∙ c.if-is_empty.false) refl c.terms_of.ensures.terms
+          ∙ ap Again (sym more.sum),
+      more.polynomial,
+    )
 
 pub returns-in_ok-rec-in_default-clause-gathering :
     goal.returns-in_ok-rec-in_default-clause-gathering
@@ -73,7 +79,8 @@ returns-in_ok-rec-in_default-clause-gathering c =
     let stays : later ≡ others = same_terms_go_on old nodes grows w c.args.others.now c.requires.others.over in
     let rec = terms_at (meanings nodes) c.as_slice.result.now in
     let trees : trees_at nodes items ≡ trees_at old parts =
-    ap (trees_at nodes) c.in_ok-from_slice-in_default.ensures ∙ same_trees_go_on old nodes grows w parts c.requires.parts in
+    ap (trees_at nodes) c.in_ok-from_slice-in_default.ensures
+    ∙ same_trees_go_on old nodes grows w parts c.requires.parts in
     let is : polynomial w rec ≡ of_atom w (atom (kind.Rec c.args.l) w (parts_of (trees_at old parts))) =
     ap (λ ts. polynomial w (terms_at (meanings nodes) ts)) c.as_slice.ensures
     ∙ c.in_ok-rec-in_default.ensures.atom
