@@ -1,6 +1,6 @@
 //! Laws of the normal form. Each is a function that does nothing.
 
-ghost use Rattle.std.specs.Prelude.{◌≡◌, ℕ, ◌<◌, ◌≤◌, ◌==◌, ◌%◌, ◌^◌, ◌⊎◌, ◌↔◌, IsTrue};
+ghost use Rattle.std.specs.Prelude.{◌≡◌, ℕ, ◌<◌, ◌≤◌, ◌==◌, ◌%◌, ◌^◌, ◌⊎◌, ◌↔◌, Bool, IsTrue};
 ghost use Rattle.std.specs.Prelude.{List, [], ◌∷◌, length, map, Option, Some};
 ghost use Rattle.scev_base.specs.Iterated.{iterated};
 ghost use Rattle.scev_base.specs.Nest.{Contains, HasDepth, IsNest};
@@ -13,7 +13,8 @@ ghost use Rattle.scev_forms.specs.Trees.{IsTreeOf, AreTreesOf};
 ghost use Rattle.scev_forms.specs.Outcome.{Done, tested};
 ghost use Rattle.scev_forms.specs.Gather.{stands_in, depth_of};
 ghost use Rattle.scev_forms.specs.Sums.{tree_sum, tree_product, recurrence_of};
-ghost use Rattle.scev_forms.specs.Casts.{truncated, extended, extended_number};
+ghost use Rattle.scev_forms.specs.Casts.{truncated, extended, extended_when, extended_number};
+ghost use Rattle.scev_forms.specs.Ranges.{StaysInRange};
 ghost use Rattle.scev_forms.specs.Quotients.{tree_quotient};
 ghost use Rattle.scev_forms.specs.Minima.{tree_minimum, tree_sequence, chosen, IsMinimum};
 
@@ -78,6 +79,20 @@ pub fn extensions_keep_the_value()
     ensures value { (k : Kind) (w : ℕ) (tree out : Tree) (held : ℕ → Option ℕ) (turns : ℕ → ℕ) (n : ℕ)
         → (k ≡ kind.Zext) ⊎ (k ≡ kind.Sext) → 0 < width_of tree → width_of tree ≤ w → IsCanonical tree
         → extended k w tree ≡ Done out
+        → tree_value held turns tree ≡ Some n
+        → tree_value held turns out ≡ Some (extended_number k (width_of tree) w n) }
+{}
+
+/// So it does where it is known that a recurrence of two parts doesn't wrap: as long as it doesn't.
+pub fn extensions_within_range_keep_the_value()
+    ensures canonical { (k : Kind) (w : ℕ) (no_wrap : Bool) (tree out : Tree)
+        → (k ≡ kind.Zext) ⊎ (k ≡ kind.Sext) → 0 < width_of tree → width_of tree ≤ w → IsCanonical tree
+        → extended_when k w no_wrap tree ≡ Done out → IsTreeOf w out }
+    ensures value { (k : Kind) (w : ℕ) (no_wrap : Bool) (tree out : Tree)
+        (held : ℕ → Option ℕ) (turns : ℕ → ℕ) (n : ℕ)
+        → (k ≡ kind.Zext) ⊎ (k ≡ kind.Sext) → 0 < width_of tree → width_of tree ≤ w → IsCanonical tree
+        → extended_when k w no_wrap tree ≡ Done out
+        → (IsTrue no_wrap → StaysInRange k held turns tree)
         → tree_value held turns tree ≡ Some n
         → tree_value held turns out ≡ Some (extended_number k (width_of tree) w n) }
 {}
