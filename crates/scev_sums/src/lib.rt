@@ -1,0 +1,14 @@
+//! Sums, products and chains of recurrences of expressions, formed in an arena.
+#![tactic(auto)]
+
+mod error;
+mod gather;
+mod make;
+mod parts;
+mod sums;
+mod tested;
+
+pub use error::FoldError;
+pub use make::{make_product, make_rec, make_sum};
+pub use parts::push;
+pub use tested::{constant, made, tree_of_atom};
