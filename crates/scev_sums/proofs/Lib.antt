@@ -1,0 +1,17 @@
+pub mod Growth
+pub mod Telling
+pub mod Refusals
+pub mod Nodes
+pub mod Reading
+pub mod RecParts
+pub mod Interned
+pub mod Held
+pub mod Trimming
+pub mod Ones
+pub mod SameTerms
+pub mod Placing
+pub mod Turns
+pub mod Recurrences
+pub mod Gathered
+pub mod Groups
+pub mod Beside
