@@ -174,3 +174,44 @@ pub contains_each_other : (parents : List (Option ℕ)) (a b : ℕ) → IsNest p
 contains_each_other parents a b nest listed there back =
     let out = nest.ends a listed in
     no_way_back parents there.0 back.0 out.1.0 a b out.1.1 there.1 back.1 out.1.3 out.1.4
+
+-- ---- which lists are nests
+
+-- the way out of a loop, from that of its parent
+longer_way_out : (parents : List (Option ℕ)) (l parent depth : ℕ) → slice_get parents l ≡ Some (Some parent)
+    → HasDepth parents parent depth → HasDepth parents l (suc depth)
+longer_way_out parents l parent depth step out =
+    (suc out.0, out.1, omega (arith, out.2), (parent, step, out.3), out.4)
+
+-- a loop of the list has an entry
+entry_there : (parents : List (Option ℕ)) (l : ℕ) → slice_get parents l ≡ None → l < length parents → ⊥
+entry_there [] l is listed = absurd (omega (arith, listed))
+entry_there (parent ∷ parents) zero is listed = absurd (cc)
+entry_there (parent ∷ parents) (suc l) is listed = entry_there parents l is (omega (arith, listed))
+
+-- a loop has a way out where its parent has one, or where it has no parent
+way_by_parent : (parents : List (Option ℕ)) (l : ℕ) (found : Option (Option ℕ)) → slice_get parents l ≡ found
+    → l < length parents
+    → ((parent : ℕ) → slice_get parents l ≡ Some (Some parent) → (depth : ℕ) × HasDepth parents parent depth)
+    → (depth : ℕ) × HasDepth parents l depth
+way_by_parent parents l None is listed ways = absurd (entry_there parents l is listed)
+way_by_parent parents l (Some None) is listed ways = (1, (0, l, refl, refl, is))
+way_by_parent parents l (Some (Some parent)) is listed ways =
+    let out = ways parent is in (suc out.0, longer_way_out parents l parent out.0 is out.1)
+
+-- each parent is a loop of the list, and a rank falls from each loop to its parent
+module _ (parents : List (Option ℕ)) (rank : ℕ → ℕ)
+    (within : (l parent : ℕ) → slice_get parents l ≡ Some (Some parent) → parent < length parents)
+    (falls : (l parent : ℕ) → slice_get parents l ≡ Some (Some parent) → rank parent < rank l)
+  where
+  way_out : (most l : ℕ) → rank l < most → l < length parents → (depth : ℕ) × HasDepth parents l depth
+  way_out zero l below listed = absurd (omega (arith, below))
+  way_out (suc most) l below listed =
+      way_by_parent parents l (slice_get parents l) refl listed
+      (λ parent step. way_out most parent (omega (arith, falls l parent step, below)) (within l parent step))
+
+  pub falling_nest : IsNest parents
+  falling_nest = record {
+    within = within;
+    ends = λ l listed. way_out (suc (rank l)) l (omega arith) listed;
+  }
