@@ -5,7 +5,8 @@ use Rattle.std.proofs.lemmas.Nat.{pow_pos}
 use Rattle.scev_base.specs.declared.ids.ExprId.{ExprId}
 use Rattle.poly_terms.specs.declared.term.Term.{Term}
 use Rattle.poly_terms.specs.Monomials.{IsMonomial, same_ids, with_factor, union, Precedes, monomial_value}
-use Rattle.poly_terms.specs.Terms.{coefficient_of, AllBehind, IsInOrder, AreReduced, IsCanonical, row_coefficient, product_coefficient, HasSum, HasProduct, IsTerms, value_of}
+use Rattle.poly_terms.specs.Terms.{coefficient_of, AllBehind, IsInOrder, AreReduced, IsCanonical, IsTooWide}
+use Rattle.poly_terms.specs.Terms.{row_coefficient, product_coefficient, HasSum, HasProduct, value_of}
 use Rattle.poly_terms.specs.Weights.{weight, row_weight, product_weight, AreCongruent}
 use Rattle.poly_terms.proofs.MonomialLemmas.{not_before_itself, one_of_orders, same_itself, same_is, not_same}
 use Rattle.poly_terms.proofs.OrderLemmas.{before_all}
@@ -174,9 +175,13 @@ one_canonical bits (s ∷ ss) (t ∷ ts) hl rl hr rr same =
     differ : false ≡ true → ⊥
     differ e = absurd (cc e)
 
--- One atom is within the limits.
-pub atom_is : (bits : ℕ) (id : ExprId) → 1 ≤ bits → IsTerms (record { bits = bits; pairs = record { ids = id ∷ []; coefficient = 1 } ∷ [] })
-atom_is bits id h = record {
-  canonical = record { in_order = (tt, tt); reduced = ((tt, tt), omega arith, pow_mono h, tt) };
-  narrow = λ wide. elim wide [ inl many ↦ omega (arith, many) | inr long ↦ elim long [ inl here ↦ omega (arith, here) | inr none ↦ none ] ];
-}
+-- One atom is canonical, and within the limits.
+pub atom_is : (bits : ℕ) (id : ExprId) → 1 ≤ bits → IsCanonical bits (record { ids = id ∷ []; coefficient = 1 } ∷ [])
+atom_is bits id h = record { in_order = (tt, tt); reduced = ((tt, tt), omega arith, pow_mono h, tt) }
+
+pub atom_within : (id : ExprId) → IsTooWide (record { ids = id ∷ []; coefficient = 1 } ∷ []) → ⊥
+atom_within id wide =
+    elim wide [
+      | inl many ↦ omega (arith, many)
+      | inr long ↦ elim long [ inl here ↦ omega (arith, here) | inr none ↦ none ]
+    ]

@@ -46,11 +46,6 @@ HasLongMonomial (t ∷ ts) = (FACTORS < length t.ids) ⊎ HasLongMonomial ts
 abbrev pub IsTooWide : List Term → Type 0
 IsTooWide pairs = (MONOMIALS < length pairs) ⊎ HasLongMonomial pairs
 
--- what holds of all `Terms`
-pub record IsTerms (p : Polynomial) : Type 0 where
-  pub canonical : IsCanonical p.bits p.pairs
-  pub narrow : IsTooWide p.pairs → ⊥
-
 -- what the products of one term with each of the list give to the coefficient of a monomial
 abbrev pub row_coefficient : Term → List Term → List ExprId → ℕ
 row_coefficient s [] monomial = 0

@@ -1,6 +1,7 @@
 //! Polynomials modulo 2^w over atoms, which are known by the numbers of their expressions.
 #![tactic(auto)]
 
+mod arithmetic;
 mod error;
 mod factors;
 pub mod laws;
@@ -11,6 +12,7 @@ mod product;
 mod term;
 mod terms;
 
+pub use arithmetic::{product_of, sum_of};
 pub use error::TermError;
 pub use factors::Factors;
 pub use term::Term;

@@ -22,7 +22,7 @@ pub(crate) fn compare(left: &[ExprId], right: &[ExprId]) -> Ordering
 }
 
 /// The product of two monomials: the factors of both, in ascending order.
-pub(crate) fn product_of(
+pub(crate) fn union_of(
     alloc: Global,
     left: &[ExprId],
     right: &[ExprId],

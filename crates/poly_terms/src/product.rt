@@ -7,7 +7,7 @@ ghost use Rattle.poly_terms.specs.Terms.{IsCanonical, AreReduced};
 ghost use Rattle.poly_terms.specs.Weights.{weight, row_weight, product_weight, AreCongruent, IsMultiplied};
 
 use crate::merge::merge;
-use crate::monomial::product_of;
+use crate::monomial::union_of;
 use crate::term::Term;
 use scev_base::{Width, trunc};
 use std::alloc::{AllocError, Global};
@@ -63,7 +63,7 @@ fn push_product(terms: &mut Vec<Term>, w: Width, s: &Term, t: &Term) -> Result<(
     let coefficient = trunc(s.coefficient.wrapping_mul(t.coefficient), w);
     if coefficient != 0 {
         let alloc = *terms.allocator();
-        let ids = product_of(alloc, s.ids.as_slice(), t.ids.as_slice())?;
+        let ids = union_of(alloc, s.ids.as_slice(), t.ids.as_slice())?;
         terms.push(Term { ids, coefficient })?;
     }
     Ok(())

@@ -2,36 +2,37 @@
 
 ghost use Rattle.std.specs.Prelude.{◌≡◌, ℕ, ◌+◌, ◌*◌, ◌%◌, ◌^◌, slice_get, IfOk, IfErr};
 ghost use Rattle.std.specs.Option.{option_map};
-ghost use Rattle.poly_terms.specs.Terms.{IsCanonical, IsTerms, IsTooWide, HasSum, HasProduct};
+ghost use Rattle.poly_terms.specs.Terms.{IsCanonical, IsTooWide, HasSum, HasProduct};
 ghost use Rattle.poly_terms.specs.Terms.{IsConstant, IsAtom, SumIsTooWide, ProductIsTooWide, value_of, as_term};
 
+use crate::arithmetic::{product_of, sum_of};
 use crate::error::TermError;
-use crate::limit::is_too_wide;
-use crate::merge::merge;
-use crate::product::multiply;
 use crate::term::Term;
 use scev_base::{ExprId, Width, trunc};
+use sqlite_items::Items;
 use std::alloc::{AllocError, Global};
 use std::marker::Model;
 
-/// A polynomial modulo 2^w over atoms: a finite map from monomials, multisets of atoms' ids, to residues other
-/// than 0. Contracts see the width and the pairs of the map in one order: those of fewer factors first, and
-/// those of as many by their ids. So polynomials with equal coefficients are equal. It has at most
-/// `scev_base::limits::MONOMIALS` monomials, each of at most `scev_base::limits::FACTORS` factors.
+/// A polynomial modulo 2^w over atoms, of whatever size: a finite map from monomials, multisets of atoms' ids,
+/// to residues other than 0. Contracts see the width and the pairs of the map in one order: those of fewer
+/// factors first, and those of as many by their ids. So polynomials with equal coefficients are equal.
+///
+/// The calls that make one keep to the limits: at most `scev_base::limits::MONOMIALS` monomials, each of at most
+/// `scev_base::limits::FACTORS` factors. One of given pairs may be above them.
 #[derive(Debug, Drop)]
 pub struct Terms {
     width: Width,
-    pairs: Vec<Term>,
+    pairs: Items<Term>,
 }
 
 impl Model for Terms {
-    ghost use Rattle.poly_terms.specs.Terms.{Polynomial, IsTerms};
+    ghost use Rattle.poly_terms.specs.Terms.{Polynomial, IsCanonical};
 
     ghost Value = { Polynomial };
 
-    ghost view = { λ t. record { bits = t.width.bits; pairs = t.pairs.items } };
+    ghost view = { λ t. record { bits = t.width.bits; pairs = t.pairs } };
 
-    ghost invariant = { λ t. IsTerms (record { bits = t.width.bits; pairs = t.pairs.items }) };
+    ghost invariant = { λ t. IsCanonical t.width.bits t.pairs };
 }
 
 impl Terms {
@@ -39,7 +40,8 @@ impl Terms {
     /// found.
     pub fn constant(alloc: Global, n: u64, w: Width) -> Result<Terms, AllocError>
         ensures width { IfOk result (λ terms. terms.bits ≡ w.bits) }
-        ensures terms { IfOk result IsTerms }
+        ensures canonical { IfOk result (λ terms. IsCanonical w.bits terms.pairs) }
+        ensures within { IfOk result (λ terms. IsTooWide terms.pairs → ⊥) }
         ensures constant { IfOk result (λ terms. IsConstant w.bits n terms.pairs) }
     {
         let mut pairs = Vec::new(alloc);
@@ -47,24 +49,50 @@ impl Terms {
         if coefficient != 0 {
             pairs.push(Term::copied(alloc, &[], coefficient)?)?;
         }
-        Ok(Terms { width: w, pairs })
+        Ok(Terms::from_pairs(w, Items::from_vec(pairs)))
     }
 
     /// The polynomial that is one atom. It fails only where no memory is found.
     pub fn atom(alloc: Global, id: ExprId, w: Width) -> Result<Terms, AllocError>
         ensures width { IfOk result (λ terms. terms.bits ≡ w.bits) }
-        ensures terms { IfOk result IsTerms }
+        ensures canonical { IfOk result (λ terms. IsCanonical w.bits terms.pairs) }
+        ensures within { IfOk result (λ terms. IsTooWide terms.pairs → ⊥) }
         ensures atom { IfOk result (λ terms. IsAtom id terms.pairs) }
     {
         let mut pairs = Vec::new(alloc);
         pairs.push(Term::copied(alloc, &[id], 1)?)?;
-        Ok(Terms { width: w, pairs })
+        Ok(Terms::from_pairs(w, Items::from_vec(pairs)))
+    }
+
+    /// The polynomial of these pairs, of whatever size. They are moved, and it takes no memory.
+    pub fn from_pairs(width: Width, pairs: Items<Term>) -> Terms
+        requires { IsCanonical width.bits pairs }
+        ensures { result ≡ record { bits = width.bits; pairs = pairs } }
+    {
+        Terms { width, pairs }
+    }
+
+    /// The pairs. They are moved, and it takes no memory.
+    pub fn into_pairs(self) -> Items<Term>
+        ensures pairs { result ≡ self.pairs }
+        ensures canonical { IsCanonical self.bits self.pairs }
+    {
+        let Terms { pairs, .. } = self;
+        pairs
+    }
+
+    /// The pairs, in order.
+    pub fn pairs(&self) -> &[Term]
+        ensures pairs { result.now ≡ self.now.pairs }
+        ensures canonical { IsCanonical self.now.bits self.now.pairs }
+    {
+        self.pairs.as_slice()
     }
 
     /// The width: the polynomial is one modulo 2 to it.
     pub fn width(&self) -> Width
         ensures width { result.bits ≡ self.now.bits }
-        ensures terms { IsTerms self.now }
+        ensures canonical { IsCanonical self.now.bits self.now.pairs }
     {
         self.width
     }
@@ -74,42 +102,33 @@ impl Terms {
     /// no memory.
     pub fn get(&self, i: usize) -> Option<(&[ExprId], u64)>
         ensures pair { option_map as_term result ≡ slice_get self.now.pairs i }
-        ensures terms { IsTerms self.now }
+        ensures canonical { IsCanonical self.now.bits self.now.pairs }
     {
         let term = self.pairs.get(i)?;
         Some((term.ids.as_slice(), term.coefficient))
     }
 
-    /// The sum of two polynomials of one width: at each monomial the residue of the sum of both coefficients.
-    /// `TooWide` comes exactly where it is above the limits, and `OutOfMemory` only where no memory is found.
-    /// It is one merge of the pairs of both.
-    pub fn add(&self, other: &Terms) -> Result<Terms, TermError>
+    /// The sum of two polynomials of one width, as by `sum_of`.
+    pub fn add(&self, alloc: Global, other: &Terms) -> Result<Terms, TermError>
         requires { self.now.bits ≡ other.now.bits }
         ensures width { IfOk result (λ terms. terms.bits ≡ self.now.bits) }
-        ensures terms { IfOk result IsTerms }
+        ensures canonical { IfOk result (λ terms. IsCanonical self.now.bits terms.pairs) }
+        ensures within { IfOk result (λ terms. IsTooWide terms.pairs → ⊥) }
         ensures sum { IfOk result (λ terms. HasSum self.now.bits self.now.pairs other.now.pairs terms.pairs) }
         ensures value { IfOk result (λ terms. (atoms : ℕ → ℕ) → value_of atoms terms.pairs % 2 ^ self.now.bits
             ≡ (value_of atoms self.now.pairs + value_of atoms other.now.pairs) % 2 ^ self.now.bits) }
         ensures too_wide { IfErr result (λ error. error ≡ TermError.TooWide
             → SumIsTooWide self.now.bits self.now.pairs other.now.pairs) }
     {
-        let alloc = *self.pairs.allocator();
-        let pairs = merge(
-            alloc,
-            self.width,
-            self.pairs.as_slice(),
-            other.pairs.as_slice(),
-        )?;
-        Terms::within_limits(self.width, pairs)
+        sum_of(alloc, self.width(), self.pairs(), other.pairs())
     }
 
-    /// The product of two polynomials of one width: at each monomial the residue of the sum of the products
-    /// of the coefficients of those monomials whose product it is. `TooWide` comes exactly where it is above
-    /// the limits, and `OutOfMemory` only where no memory is found.
-    pub fn mul(&self, other: &Terms) -> Result<Terms, TermError>
+    /// The product of two polynomials of one width, as by `product_of`.
+    pub fn mul(&self, alloc: Global, other: &Terms) -> Result<Terms, TermError>
         requires { self.now.bits ≡ other.now.bits }
         ensures width { IfOk result (λ terms. terms.bits ≡ self.now.bits) }
-        ensures terms { IfOk result IsTerms }
+        ensures canonical { IfOk result (λ terms. IsCanonical self.now.bits terms.pairs) }
+        ensures within { IfOk result (λ terms. IsTooWide terms.pairs → ⊥) }
         ensures product { IfOk result (λ terms.
             HasProduct self.now.bits self.now.pairs other.now.pairs terms.pairs) }
         ensures value { IfOk result (λ terms. (atoms : ℕ → ℕ) → value_of atoms terms.pairs % 2 ^ self.now.bits
@@ -117,27 +136,6 @@ impl Terms {
         ensures too_wide { IfErr result (λ error. error ≡ TermError.TooWide
             → ProductIsTooWide self.now.bits self.now.pairs other.now.pairs) }
     {
-        let alloc = *self.pairs.allocator();
-        let pairs = multiply(
-            alloc,
-            self.width,
-            self.pairs.as_slice(),
-            other.pairs.as_slice(),
-        )?;
-        Terms::within_limits(self.width, pairs)
-    }
-
-    /// The polynomial of these pairs, unless it is above the limits.
-    fn within_limits(width: Width, pairs: Vec<Term>) -> Result<Terms, TermError>
-        requires { IsCanonical width.bits pairs.items }
-        ensures ok { IfOk result (λ terms. terms ≡ record { bits = width.bits; pairs = pairs.items }) }
-        ensures terms { IfOk result IsTerms }
-        ensures err { IfErr result (λ _. IsTooWide pairs.items) }
-    {
-        if is_too_wide(pairs.as_slice()) {
-            Err(TermError::TooWide)
-        } else {
-            Ok(Terms { width, pairs })
-        }
+        product_of(alloc, self.width(), self.pairs(), other.pairs())
     }
 }

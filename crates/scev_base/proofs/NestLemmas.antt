@@ -204,14 +204,14 @@ module _ (parents : List (Option ℕ)) (rank : ℕ → ℕ)
     (within : (l parent : ℕ) → slice_get parents l ≡ Some (Some parent) → parent < length parents)
     (falls : (l parent : ℕ) → slice_get parents l ≡ Some (Some parent) → rank parent < rank l)
   where
-  way_out : (most l : ℕ) → rank l < most → l < length parents → (depth : ℕ) × HasDepth parents l depth
-  way_out zero l below listed = absurd (omega (arith, below))
-  way_out (suc most) l below listed =
-      way_by_parent parents l (slice_get parents l) refl listed
-      (λ parent step. way_out most parent (omega (arith, falls l parent step, below)) (within l parent step))
+    way_out : (most l : ℕ) → rank l < most → l < length parents → (depth : ℕ) × HasDepth parents l depth
+    way_out zero l below listed = absurd (omega (arith, below))
+    way_out (suc most) l below listed =
+        way_by_parent parents l (slice_get parents l) refl listed
+        (λ parent step. way_out most parent (omega (arith, falls l parent step, below)) (within l parent step))
 
-  pub falling_nest : IsNest parents
-  falling_nest = record {
-    within = within;
-    ends = λ l listed. way_out (suc (rank l)) l (omega arith) listed;
-  }
+    pub falling_nest : IsNest parents
+    falling_nest = record {
+      within = within;
+      ends = λ l listed. way_out (suc (rank l)) l (omega arith) listed;
+    }

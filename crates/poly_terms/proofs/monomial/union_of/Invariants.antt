@@ -1,6 +1,6 @@
 use Rattle.std.proofs.Common.{◌≡◌, ◌+◌, ◌++◌, length}
 use Rattle.poly_terms.specs.Monomials.{IsMonomial, union}
-use Rattle.poly_terms.proofs.monomial.product_of.Given as goal
+use Rattle.poly_terms.proofs.monomial.union_of.Given as goal
 
 abbrev pub invariant-loop-x : goal.invariant-loop-x
 invariant-loop-x l = record {

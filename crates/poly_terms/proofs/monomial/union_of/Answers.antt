@@ -1,8 +1,8 @@
 use Rattle.std.proofs.Common.{◌≡◌, ◌++◌, ◌⊎◌, length, inl, inr, ap, ◌∙◌, subst}
 use Rattle.poly_terms.specs.Monomials.{IsMonomial, union}
 use Rattle.poly_terms.proofs.MonomialLemmas.{union_left_turn, union_right_turn, union_end}
-use Rattle.poly_terms.proofs.monomial.product_of.Goals as goal
-use Rattle.poly_terms.proofs.monomial.product_of.Goals.{in_default, in_default-2}
+use Rattle.poly_terms.proofs.monomial.union_of.Goals as goal
+use Rattle.poly_terms.proofs.monomial.union_of.Goals.{in_default, in_default-2}
 
 pub loop-x-preserved-in_ok-push : goal.loop-x-preserved-in_ok-push
 loop-x-preserved-in_ok-push c =
