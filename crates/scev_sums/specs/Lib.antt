@@ -1,3 +1,4 @@
 pub mod Errors
 pub mod Answers
+pub mod Values
 pub mod Levels

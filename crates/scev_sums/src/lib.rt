@@ -3,8 +3,11 @@
 
 mod error;
 mod gather;
+mod make;
 mod parts;
 mod sums;
 mod tested;
 
 pub use error::FoldError;
+pub use make::{make_product, make_rec, make_sum};
+pub use tested::{constant, made, tree_of_atom};

@@ -1,10 +1,11 @@
-//! Trees and atoms put into an arena, and looked at.
+//! Trees and atoms put into an arena, and looked at: whether they are above a limit.
 
 ghost use Rattle.std.specs.Prelude.{◌≡◌, ◌<◌, length, map, IfOk};
 ghost use Rattle.scev_tree.specs.Tree as tree;
 ghost use Rattle.scev_tree.specs.Canonical.{HasParts};
 ghost use Rattle.scev_arena.specs.Meaning.{meanings, terms_at, tree_of, atom_of};
 ghost use Rattle.scev_arena.specs.Standing.{IsTreeAt, IsAtomAt, AreTrees};
+ghost use Rattle.scev_forms.specs.Atoms.{made as forms_made};
 ghost use Rattle.scev_forms.specs.Outcome as forms;
 ghost use Rattle.scev_polys.specs.Polynomials.{IsPolynomial};
 ghost use Rattle.scev_sums.specs.Answers.{GoesOn, IsAt, Tells};
@@ -13,7 +14,7 @@ use crate::error::FoldError;
 use poly_terms::Term;
 use scev_arena::{Arena, Node};
 use scev_base::{ExprId, Width};
-use scev_polys::of_atom;
+use scev_polys::{of_atom, of_number};
 use scev_tree::Kind;
 use sqlite_items::Items;
 use std::alloc::{AllocError, Global};
@@ -59,8 +60,8 @@ pub(crate) fn tested_terms(
     Ok(id)
 }
 
-/// The place of the tree of an atom of its own.
-pub(crate) fn tree_of_atom(
+/// The place of the tree of an atom of its own, with these parts. It may be above a limit. The arena only goes on.
+pub fn tree_of_atom(
     alloc: Global,
     arena: &mut Arena,
     kind: Kind,
@@ -79,5 +80,37 @@ pub(crate) fn tree_of_atom(
         parts,
     })?;
     let terms = of_atom(alloc, arena, atom, w)?;
+    tree_of_terms(arena, w, terms)
+}
+
+/// The tree of an atom of its own, with these parts, unless it is above a limit. The arena only goes on.
+pub fn made(
+    alloc: Global,
+    arena: &mut Arena,
+    kind: Kind,
+    w: Width,
+    parts: Items<ExprId>,
+) -> Result<ExprId, FoldError>
+    requires parts { AreTrees arena.old parts }
+    requires kind { HasParts kind w.bits (tree.parts_of (map (tree_of arena.old) parts)) }
+    ensures grows { GoesOn arena.old arena.new }
+    ensures tree { Tells (IsAt arena.new w.bits) (forms_made kind w.bits (map (tree_of arena.old) parts)) result }
+{
+    let id = tree_of_atom(alloc, arena, kind, w, parts)?;
+    tested(arena, id)?;
+    Ok(id)
+}
+
+/// The place of a constant: the number modulo 2^w. The arena only goes on.
+pub fn constant(
+    alloc: Global,
+    arena: &mut Arena,
+    w: Width,
+    n: u64,
+) -> Result<ExprId, AllocError>
+    ensures grows { GoesOn arena.old arena.new }
+    ensures tree { IfOk result (λ id. IsAt arena.new w.bits id (tree.constant w.bits n)) }
+{
+    let terms = of_number(alloc, arena, n, w)?;
     tree_of_terms(arena, w, terms)
 }

@@ -5,6 +5,7 @@ use Rattle.scev_base.specs.declared.width.Width.{Width}
 use Rattle.scev_tree.specs.declared.kind.Kind.{Kind}
 use Rattle.scev_tree.specs.declared.kind.Kind.TheVariants as kind
 use Rattle.scev_tree.specs.Tree.{polynomial, atom, no_parts, parts_of}
+use Rattle.scev_tree.specs.Canonical.{HasParts, AreCanonicalTerms}
 use Rattle.poly_terms.specs.declared.term.Term.{Term}
 use Rattle.scev_arena.specs.declared.node.Node.{Node}
 use Rattle.scev_arena.specs.declared.node.Node.TheVariants as node
@@ -30,6 +31,9 @@ module _ (nodes : List Node) (id : ExprId) (n : Node) (arena : IsArena nodes) (t
       pub tree_below : AreOverBelow id.0 terms
       tree_below = terms_below nodes id.0 width.bits terms (arena.stand id.0 (node.Tree width terms) node_there).1
 
+      pub tree_canonical : AreCanonicalTerms width.bits (terms_at (meanings nodes) terms)
+      tree_canonical = ((well_made nodes arena).stands id.0 (node.Tree width terms) node_there).0
+
       -- the atom that such a place counts as
       pub no_atom_there : atom_of nodes id ≡ atom kind.Trunc 0 no_parts
       no_atom_there = ap atom_in ((well_made nodes arena).holds id.0 (node.Tree width terms) node_there)
@@ -43,6 +47,10 @@ module _ (nodes : List Node) (id : ExprId) (n : Node) (arena : IsArena nodes) (t
 
       pub atom_trees : AreTrees nodes parts
       atom_trees = ((well_made nodes arena).stands id.0 (node.Atom k width parts) part_there).0
+
+      -- they are such as the kind asks for
+      pub atom_parts : HasParts k width.bits (parts_of (map (tree_of nodes) parts))
+      atom_parts = ((well_made nodes arena).stands id.0 (node.Atom k width parts) part_there).1
 
       pub parts_below : AreBelow id.0 parts
       parts_below = trees_below nodes id.0 parts (arena.stand id.0 (node.Atom k width parts) part_there).0

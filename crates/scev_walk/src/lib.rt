@@ -11,5 +11,6 @@ mod variance;
 
 pub use atoms::{alone, number_of};
 pub use loops::{deepest, stands_in};
+pub use nodes::{atom_at, tree_at, width};
 pub use order::{compare, compare_monomials};
 pub use variance::moves;
