@@ -5,6 +5,7 @@ pub mod Gather
 pub mod Sums
 pub mod Atoms
 pub mod Casts
+pub mod Ranges
 pub mod Quotients
 pub mod Minima
 pub mod Turns
