@@ -7,7 +7,7 @@ use Rattle.scev_base.specs.Iterated.{iterated}
 use Rattle.rec_algebra.proofs.AlgebraLemmas.{Each, value_closed, value_of_single}
 use Rattle.scev_tree.specs.declared.kind.Kind.TheVariants as kind
 use Rattle.scev_tree.specs.Tree.{Tree, Terms, Atom, polynomial, atom, constant, parts_of}
-use Rattle.scev_tree.specs.Canonical.{AreCanonicalTerms, AreCanonicalParts, IsCanonicalAtom, HaveWidth}
+use Rattle.scev_tree.specs.Canonical.{AreCanonicalTerms, IsCanonicalAtom}
 use Rattle.scev_tree.specs.Value.{sum, product, tree_value, terms_value, atom_value}
 use Rattle.scev_tree.proofs.Arithmetic.{IsBelow, product_closed}
 use Rattle.scev_tree.proofs.AffineValue.{constant_value}
@@ -17,7 +17,7 @@ use Rattle.scev_forms.specs.Polynomials.{terms_of}
 use Rattle.scev_forms.specs.Sums.{recurrence}
 use Rattle.scev_forms.proofs.Outcomes.{Gives}
 use Rattle.scev_forms.proofs.Atoms.{value_below, constant_is_tree}
-use Rattle.scev_forms.proofs.Flat.{values_of_trees}
+use Rattle.scev_forms.proofs.Flat.{trees_have_width, trees_are_canonical, values_of_trees}
 use Rattle.scev_forms.proofs.Kept.{Keeps, keeps_same, keeps_none, keeps_again, plus_zero, times_one, number_semiring}
 
 -- ---- what stands for a value
@@ -132,24 +132,14 @@ module _ (held : ℕ → Option ℕ) (turns : ℕ → ℕ) (w : ℕ) where
   rec_atom_value l first second trees =
       ap (iterated (sum w) (turns l) (tree_value held turns first)) (values_of_trees held turns (second ∷ trees))
 
-  -- trees of w bits are parts of that width
-  trees_have_width : (trees : List Tree) → AreTreesOf w trees → HaveWidth w (parts_of trees)
-  trees_have_width [] h = tt
-  trees_have_width (tree ∷ trees) h = (h.0.0, trees_have_width trees h.1)
-
-  -- and canonical parts
-  trees_are_canonical : (trees : List Tree) → AreTreesOf w trees → AreCanonicalParts (parts_of trees)
-  trees_are_canonical [] h = tt
-  trees_are_canonical (tree ∷ trees) h = (h.0.1, trees_are_canonical trees h.1)
-
   -- the atom is canonical where its parts are
   pub rec_atom_canonical : (l : ℕ) (first second : Tree) (trees : List Tree)
       → AreTreesOf w (first ∷ second ∷ trees)
       → IsCanonicalAtom w (rec_atom l first second trees)
   rec_atom_canonical l first second trees h = (
     refl,
-    (omega arith, trees_have_width (first ∷ second ∷ trees) h),
-    trees_are_canonical (first ∷ second ∷ trees) h,
+    (omega arith, trees_have_width w (first ∷ second ∷ trees) h),
+    trees_are_canonical w (first ∷ second ∷ trees) h,
   )
 
   -- the coefficient 1 of an atom doesn't count
