@@ -1,4 +1,3 @@
-pub mod AffineValue
 pub mod DefinedOnce
 pub mod KeptNumbers
 pub mod RecurrenceShape

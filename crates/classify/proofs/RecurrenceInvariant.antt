@@ -35,7 +35,7 @@ use Rattle.loop_regions.specs.Turns.{has, turn}
 use Rattle.ir_model.specs.Walks.{Edge}
 use Rattle.loop_regions.proofs.TurnSteps.{turn_again, turn_anew}
 use Rattle.loop_regions.proofs.EnteredEdges.{edge_of_entering}
-use Rattle.classify.proofs.AffineValue.{first_turn, next_turn}
+use Rattle.scev_tree.proofs.AffineValue.{first_turn, next_turn}
 use Rattle.classify.proofs.DefinedOnce.{only_there}
 use Rattle.classify.proofs.KeptNumbers.{Keeps, of_type_same, numeral_value, numeral_small, add_kept, increment_no_phi}
 use Rattle.classify.proofs.RecurrenceShape.{Shape}

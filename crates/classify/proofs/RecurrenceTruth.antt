@@ -21,7 +21,7 @@ use Rattle.loop_regions.specs.Turns.{has, turn, turns}
 use Rattle.scev_tree.specs.Tree.{affine}
 use Rattle.classify.specs.Recurrence.{IsRecurrence}
 use Rattle.classify.specs.Truth.{number_of, Holds, IsTrueOf}
-use Rattle.classify.proofs.AffineValue.{affine_value}
+use Rattle.scev_tree.proofs.AffineValue.{affine_value}
 use Rattle.classify.proofs.DefinedOnce.{only_there, only_in_block, no_param}
 use Rattle.classify.proofs.KeptNumbers.{Keeps}
 use Rattle.classify.proofs.RecurrenceShape.{Shape, shape_of}

@@ -29,16 +29,16 @@ at_held (x ∷ xs) (suc i) held e = at_held xs i held e
 
 -- ---- as many as are named
 
-as_many_parts : (nodes : List Node) (ids : List ExprId)
+pub as_many_parts : (nodes : List Node) (ids : List ExprId)
     → count_parts (parts_of (map (tree_of nodes) ids)) ≡ length ids
 as_many_parts nodes [] = refl
 as_many_parts nodes (id ∷ ids) = ap suc (as_many_parts nodes ids)
 
-as_many_factors : (meant : List Meant) (ids : List ExprId) → count_factors (factors_at meant ids) ≡ length ids
+pub as_many_factors : (meant : List Meant) (ids : List ExprId) → count_factors (factors_at meant ids) ≡ length ids
 as_many_factors meant [] = refl
 as_many_factors meant (id ∷ ids) = ap suc (as_many_factors meant ids)
 
-as_many_terms : (meant : List Meant) (ts : List Term) → count_terms (terms_at meant ts) ≡ length ts
+pub as_many_terms : (meant : List Meant) (ts : List Term) → count_terms (terms_at meant ts) ≡ length ts
 as_many_terms meant [] = refl
 as_many_terms meant (t ∷ ts) = ap suc (as_many_terms meant ts)
 

@@ -12,6 +12,7 @@ use Rattle.scev_tree.specs.Value.{tree_value, atom_value}
 use Rattle.scev_tree.proofs.Arithmetic.{IsBelow}
 use Rattle.scev_tree.proofs.Below.{LeafFits, atom_below}
 use Rattle.scev_tree.proofs.Values.{tree_below}
+use Rattle.scev_tree.proofs.AffineValue.{constant_value}
 use Rattle.scev_forms.proofs.Outcomes.{tested_same}
 use Rattle.scev_forms.specs.Outcome.{Done}
 use Rattle.scev_forms.specs.Trees.{IsTreeOf}
@@ -104,17 +105,9 @@ module _ (held : ℕ → Option ℕ) (turns : ℕ → ℕ) where
   pub number_small : (w : ℕ) (tree : Tree) (n : ℕ) → IsTreeOf w tree → tree_value held turns tree ≡ Some n → n < 2 ^ w
   number_small w tree n is value = subst (IsBelow w) value (value_below w tree is)
 
-  -- a constant has its lowest bits as its value
-  pub constant_value : (w n : ℕ) → tree_value held turns (constant w n) ≡ Some (n % 2 ^ w)
-  constant_value w n =
-      cond_both (n % 2 ^ w == 0) (polynomial w no_terms) (polynomial w (term no_factors (n % 2 ^ w) no_terms))
-      (λ tree. tree_value held turns tree ≡ Some (n % 2 ^ w))
-      (λ none. sym (ap Some (eqb-true (n % 2 ^ w) 0 none)))
-      (λ _. ap Some (one_number w (n % 2 ^ w) (mod_below n (2 ^ w) (pow_pos w))))
-
   -- a constant of a number below the modulus has that
   pub constant_same : (w n : ℕ) → n < 2 ^ w → tree_value held turns (constant w n) ≡ Some n
-  constant_same w n h = constant_value w n ∙ ap Some (mod-eq_of_lt h)
+  constant_same w n h = constant_value held turns w n ∙ ap Some (mod-eq_of_lt h)
 
   -- a canonical tree that is a number has it as its value, which is below the modulus
   pub number_value : (tree : Tree) (n : ℕ)

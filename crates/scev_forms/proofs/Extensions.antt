@@ -9,14 +9,14 @@ use Rattle.scev_tree.specs.declared.kind.Kind.TheVariants as kind
 use Rattle.scev_tree.specs.Tree.{Tree, Atom, Parts, atom, no_parts, part, constant, width_of, trees_of}
 use Rattle.scev_tree.specs.Canonical.{HasParts, IsCanonical, AreCanonicalParts}
 use Rattle.scev_tree.specs.Value.{tree_value, atom_value}
-use Rattle.scev_tree.proofs.Below.{LeafFits}
+use Rattle.scev_tree.proofs.Below.{LeafFits, residue_below}
 use Rattle.scev_forms.specs.Outcome.{Done}
 use Rattle.scev_forms.specs.Trees.{IsTreeOf}
 use Rattle.scev_forms.specs.Atoms.{number_of, alone, made}
 use Rattle.scev_forms.specs.Casts.{extended_number, extended_atom, extended_tree, extended}
 use Rattle.scev_forms.proofs.Atoms.{done_is_tree, made_is_tree, constant_is_tree, constant_same, number_value}
 use Rattle.scev_forms.proofs.Atoms.{number_fits, alone_is_canonical, made_value, alone_value}
-use Rattle.scev_forms.proofs.Readings.{residue_below, pow_more, half_fits, residue_reading, reading_extended}
+use Rattle.scev_forms.proofs.Readings.{pow_more, half_fits, residue_reading, reading_extended}
 use Rattle.scev_forms.proofs.Readings.{residue_narrow}
 
 -- an extension, without sign or with it

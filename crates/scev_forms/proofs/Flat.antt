@@ -93,7 +93,10 @@ both_not_empty [] ys h = absurd h
 both_not_empty (x ∷ xs) ys h = tt
 
 -- canonical parts of one width
-parts_are_trees : (w : ℕ) (parts : Parts) → HaveWidth w parts → AreCanonicalParts parts → AreTreesOf w (trees_of parts)
+pub parts_are_trees : (w : ℕ) (parts : Parts)
+    → HaveWidth w parts
+    → AreCanonicalParts parts
+    → AreTreesOf w (trees_of parts)
 parts_are_trees w no_parts h h' = tt
 parts_are_trees w (part tree parts) h h' = ((h.0, h'.0), parts_are_trees w parts h.1 h'.1)
 

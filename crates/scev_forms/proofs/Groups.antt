@@ -11,7 +11,8 @@ use Rattle.scev_forms.specs.Sums.{parts_plus, group_parts, is_settled}
 use Rattle.scev_forms.proofs.Outcomes.{Gives, gives_next}
 use Rattle.scev_forms.proofs.Kept.{keeps_same, keeps_again, keeps_plus_zero, keeps_times_one, plus_zero}
 use Rattle.scev_forms.proofs.Standing.{Stands, PartsStand, IsFormer, parts_value, parts_stand, parts_below}
-use Rattle.scev_forms.proofs.Standing.{value_below, lone_part_value}
+use Rattle.scev_forms.proofs.Standing.{lone_part_value}
+use Rattle.scev_forms.proofs.Atoms.{value_below}
 use Rattle.scev_forms.proofs.PartSums.{parts_sum_stand, parts_product_stand, parts_multiple_stand}
 use Rattle.scev_forms.proofs.Monomials.{AreRecs, recs_value, rest_ascends, rest_canonical, recs_canonical}
 use Rattle.scev_forms.proofs.Monomials.{factors_apart_value}

@@ -8,15 +8,16 @@ use Rattle.scev_tree.specs.declared.kind.Kind.{Kind}
 use Rattle.scev_tree.specs.declared.kind.Kind.TheVariants as kind
 use Rattle.scev_tree.specs.Tree.{Tree, Terms, Factors, Atom, Parts, no_terms, term, no_factors, factor, atom}
 use Rattle.scev_tree.specs.Tree.{no_parts, part, trees_of}
-use Rattle.scev_tree.specs.Canonical.{AreFrom, Ascend, IsBefore, HaveWidth, AreCanonicalTerms, AreCanonicalFactors}
-use Rattle.scev_tree.specs.Canonical.{IsCanonicalAtom, AreCanonicalParts}
+use Rattle.scev_tree.specs.Canonical.{AreFrom, Ascend, IsBefore, AreCanonicalTerms, AreCanonicalFactors}
+use Rattle.scev_tree.specs.Canonical.{IsCanonicalAtom}
 use Rattle.scev_tree.specs.Value.{sum, product, tree_value, terms_value, factors_value, atom_value}
 use Rattle.scev_tree.proofs.Arithmetic.{sum_assoc, sum_left_comm, product_assoc, product_left_comm, one_times}
 use Rattle.scev_tree.proofs.Values.{terms_below}
 use Rattle.scev_forms.specs.Trees.{AreTreesOf}
 use Rattle.scev_forms.specs.Gather.{is_rec_of, joins, joining, staying, recs_of, rest_of}
 use Rattle.scev_forms.proofs.Kept.{plus_zero}
-use Rattle.scev_forms.proofs.Standing.{parts_value, values_of_parts}
+use Rattle.scev_forms.proofs.Flat.{parts_are_trees, values_of_parts}
+use Rattle.scev_forms.proofs.Standing.{parts_value}
 
 -- ---- the factors that are no recurrences of the loop
 
@@ -51,15 +52,7 @@ abbrev pub AreRecs : ℕ → List (List Tree) → Type 0
 AreRecs w [] = Unit {0}
 AreRecs w (rec ∷ recs) = AreTreesOf w rec × AreRecs w recs
 
--- the parts of an atom that are of one width
-parts_are_trees : (w : ℕ) (parts : Parts)
-    → HaveWidth w parts
-    → AreCanonicalParts parts
-    → AreTreesOf w (trees_of parts)
-parts_are_trees w no_parts wide h = tt
-parts_are_trees w (part tree parts) wide h = ((wide.0, h.0), parts_are_trees w parts wide.1 h.1)
-
--- those of a recurrence
+-- the parts of a recurrence
 rec_parts : (w l : ℕ) (k : Kind) (v : ℕ) (parts : Parts)
     → is_rec_of l (atom k v parts) ≡ true
     → IsCanonicalAtom w (atom k v parts)
@@ -135,7 +128,7 @@ module _ (held : ℕ → Option ℕ) (turns : ℕ → ℕ) (w : ℕ) where
       let first = tree_value held turns tree in
       let others = map (tree_value held turns) (trees_of parts) in
       let same : loop.0 ≡ l = eqb-true loop.0 l is in
-      ap (iterated (sum v) (turns loop.0) first) (values_of_parts held turns w parts)
+      ap (iterated (sum v) (turns loop.0) first) (values_of_parts held turns parts)
       ∙ ap (λ u. iterated (sum u) (turns loop.0) first others) e
       ∙ ap (λ m. iterated (sum w) (turns m) first others) same
   rec_value l _ v parts is e = absurd cc

@@ -24,6 +24,7 @@ use Rattle.scev_forms.specs.Sums.{same_tree, carried_by, parts_sum, parts_produc
 use Rattle.scev_forms.proofs.Outcomes.{Gives, gives_more}
 use Rattle.scev_forms.proofs.Kept.{Keeps, keeps_same, keeps_again, keeps_sum, keeps_product}
 use Rattle.scev_forms.proofs.Kept.{keeps_lifted_none, keeps_none_first, number_semiring}
+use Rattle.scev_forms.proofs.Flat.{both_are_trees}
 use Rattle.scev_forms.proofs.Standing.{value_at, Stands, PartsStand, IsFormer, parts_value, all_stand, values_below}
 use Rattle.scev_forms.proofs.Standing.{constant_stands, parts_stand_kept, parts_below}
 use Rattle.scev_forms.proofs.Carried.{carried_stand}
@@ -36,11 +37,6 @@ module _ (held : ℕ → Option ℕ) (turns : ℕ → ℕ) (w : ℕ) where
   -- the values of trees
   abbrev values_of : List Tree → List (Option ℕ)
   values_of trees = map (tree_value held turns) trees
-
-  -- trees of two lists
-  both_trees : (left right : List Tree) → AreTreesOf w left → AreTreesOf w right → AreTreesOf w (left ++ right)
-  both_trees [] right h hs = hs
-  both_trees (tree ∷ left) right h hs = (h.0, both_trees left right h.1 hs)
 
   -- the values of the first list, of those of both
   take_values : (left right : List Tree) → take (length left) (values_of (left ++ right)) ≡ values_of left
@@ -79,7 +75,7 @@ module _ (held : ℕ → Option ℕ) (turns : ℕ → ℕ) (w : ℕ) where
       let value' = parts_value held turns w l other in
       keeps_same _ _ (sym (value_of_has (turns l) _ (sum w value value')
       (sum_is_carried (number_semiring w) (Some 0) items (length one) (length other) (turns l) value value'
-      (all_from_each (IsBelow w) items (values_below held turns w (one ++ other) (both_trees one other h hs)))
+      (all_from_each (IsBelow w) items (values_below held turns w (one ++ other) (both_are_trees w one other h hs)))
       (count_values one other)
       (subst (λ xs. HasValue (sum w) (turns l) xs value) (sym (take_values one other)) refl)
       (subst (λ xs. HasValue (sum w) (turns l) xs value') (sym (drop_values one other)) refl))))
@@ -102,7 +98,7 @@ module _ (held : ℕ → Option ℕ) (turns : ℕ → ℕ) (w : ℕ) where
       let value' = parts_value held turns w l other in
       keeps_same _ _ (sym (value_of_has (turns l) _ (product w value value')
       (product_is_carried (number_semiring w) (Some 0) items (length one) (length other) (turns l) value value'
-      (all_from_each (IsBelow w) items (values_below held turns w (one ++ other) (both_trees one other h hs)))
+      (all_from_each (IsBelow w) items (values_below held turns w (one ++ other) (both_are_trees w one other h hs)))
       (count_values one other)
       (subst (λ xs. HasValue (sum w) (turns l) xs value) (sym (take_values one other)) refl)
       (subst (λ xs. HasValue (sum w) (turns l) xs value') (sym (drop_values one other)) refl))))
@@ -148,7 +144,7 @@ module _ (held : ℕ → Option ℕ) (turns : ℕ → ℕ) (w : ℕ) (form : Ter
       let value = parts_value held turns w l left in
       let value' = parts_value held turns w l right in
       carried_kept l (sum w x y) (sum_plan (length left) (length right)) (left ++ right)
-      (both_trees held turns w left right h.0 h'.0)
+      (both_are_trees w left right h.0 h'.0)
       (keeps_again (sum w x y) (sum w value value') _ (keeps_sum w x value y value' h.1 h'.1)
       (sum_plan_kept held turns w l left right h.0 h'.0))
 
@@ -161,7 +157,7 @@ module _ (held : ℕ → Option ℕ) (turns : ℕ → ℕ) (w : ℕ) (form : Ter
       let value = parts_value held turns w l left in
       let value' = parts_value held turns w l right in
       carried_kept l (product w x y) (product_plan (length left) (length right)) (left ++ right)
-      (both_trees held turns w left right h.0 h'.0)
+      (both_are_trees w left right h.0 h'.0)
       (keeps_again (product w x y) (product w value value') _ (keeps_product w x value y value' h.1 h'.1)
       (product_plan_kept held turns w l left right h.0 h'.0))
 

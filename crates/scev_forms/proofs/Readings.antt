@@ -3,17 +3,9 @@ use Rattle.std.proofs.Common.{◌≡◌, ℕ, suc, ◌+◌, ◌-◌, ◌*◌, �
 use Rattle.std.proofs.Common.{ℤ, pos, negsuc, sym, ap, ◌∙◌, subst, arith}
 use Rattle.std.specs.Prelude.{neg_ℤ}
 use Rattle.std.proofs.lemmas.Bool.{cond-false, le-ltb, cases_lt}
-use Rattle.std.proofs.lemmas.Nat.{pow_pos, mod_below}
 use Rattle.std.proofs.Math.Nat.{mod-eq_of_lt, pow-suc, pow-le-pow_right}
 use Rattle.scev_base.specs.Residue.{residue, reading}
 use Rattle.scev_base.proofs.ReadingLemmas.{reading_low}
-
--- a residue is below the modulus
-pub residue_below : (w : ℕ) (z : ℤ) → residue w z < 2 ^ w
-residue_below w (pos n) = mod_below n (2 ^ w) (pow_pos w)
-residue_below w (negsuc n) =
-    let some : 0 < 2 ^ w = pow_pos w in
-    omega arith
 
 -- a power of 2 isn't above one of as many bits or more
 pub pow_more : (v w : ℕ) → v ≤ w → 2 ^ v ≤ 2 ^ w

@@ -4,7 +4,7 @@ use Rattle.std.proofs.Common.{List, [], ◌∷◌, ◌++◌, map, Option, Some, 
 use Rattle.std.proofs.lemmas.Bool.{cond_both}
 use Rattle.std.proofs.lemmas.Nat.{pow_below}
 use Rattle.scev_tree.specs.declared.kind.Kind.TheVariants as kind
-use Rattle.scev_tree.specs.Tree.{Tree, polynomial, no_terms, trees_of}
+use Rattle.scev_tree.specs.Tree.{Tree, trees_of}
 use Rattle.scev_tree.specs.Order.{tree_code}
 use Rattle.scev_tree.specs.Value.{lifted, least_in_sequence, tree_value}
 use Rattle.scev_tree.proofs.Arithmetic.{IsBelow}
@@ -22,6 +22,7 @@ use Rattle.scev_forms.proofs.Atoms.{alone_value}
 use Rattle.scev_forms.proofs.Flat.{NotEmpty, both_are_trees, both_not_empty, trees_are_canonical, flattened_cases}
 use Rattle.scev_forms.proofs.Flat.{flattened_are_trees, flattened_not_empty, has_two, of_parts_is_tree}
 use Rattle.scev_forms.proofs.Flat.{values_of_parts, values_of_trees}
+use Rattle.scev_forms.proofs.Trimmed.{zero_value}
 
 -- ---- canonical trees
 
@@ -330,18 +331,13 @@ module _ (held : ℕ → Option ℕ) (turns : ℕ → ℕ) (w : ℕ) (some : 0 <
             ∙ ap (chain (Some n)) same ∙ sym (ap (λ u. chain u (all_least trees)) number.0)
       ] refl
 
-  -- a tree without terms is 0
-  zero_value : (tree : Tree) → is_zero tree ≡ true → tree_value held turns tree ≡ Some 0
-  zero_value (polynomial v no_terms) h = refl
-  zero_value (polynomial v _) h = absurd cc
-
   -- a first 0 alone
   zero_least : (trees : List Tree) → all_least (from_zero trees) ≡ all_least trees
   zero_least [] = refl
   zero_least (tree ∷ trees) =
       cond_both (is_zero tree) (tree ∷ []) (tree ∷ trees) (λ l. all_least l ≡ all_least (tree ∷ trees))
       (λ none.
-      let value = zero_value tree none in
+      let value = zero_value held turns w tree none in
       ap (λ u. chain u (Some (2 ^ w - 1))) value ∙ sym (ap (λ u. chain u (all_least trees)) value))
       (λ _. refl)
 

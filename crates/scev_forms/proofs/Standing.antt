@@ -1,23 +1,23 @@
 -- Trees and parts of recurrences that stand for a value: canonical, and with that value wherever it is a number.
-use Rattle.std.proofs.Common.{◌≡◌, ℕ, ◌%◌, ◌^◌, ◌<◌, ◌==◌, List, [], ◌∷◌, map}
+use Rattle.std.proofs.Common.{◌≡◌, ℕ, ◌%◌, ◌^◌, ◌<◌, List, [], ◌∷◌, map}
 use Rattle.std.proofs.Common.{Option, Some, None, refl, sym, ap, ◌∙◌, subst, arith}
 use Rattle.std.proofs.Math.Nat.{mod-eq_of_lt}
-use Rattle.std.proofs.lemmas.Bool.{cond_both, eqb-true, eqb-false}
-use Rattle.std.proofs.lemmas.Nat.{pow_pos, pow_below, mod_below}
+use Rattle.std.proofs.lemmas.Nat.{pow_pos, pow_below}
 use Rattle.scev_base.specs.Iterated.{iterated}
 use Rattle.rec_algebra.proofs.AlgebraLemmas.{Each, value_closed, value_of_single}
 use Rattle.scev_tree.specs.declared.kind.Kind.TheVariants as kind
-use Rattle.scev_tree.specs.Tree.{Tree, Terms, Atom, Parts, polynomial, no_terms, term, no_factors, atom}
-use Rattle.scev_tree.specs.Tree.{no_parts, part, constant, parts_of, trees_of}
-use Rattle.scev_tree.specs.Canonical.{AreCanonicalTerms, AreCanonicalParts, IsCanonicalAtom, HaveWidth}
-use Rattle.scev_tree.specs.Value.{sum, product, values, tree_value, terms_value, atom_value, parts_values}
-use Rattle.scev_tree.proofs.Arithmetic.{IsBelow, product_closed, one_times}
-use Rattle.scev_tree.proofs.Values.{tree_below}
+use Rattle.scev_tree.specs.Tree.{Tree, Terms, Atom, polynomial, atom, constant, parts_of}
+use Rattle.scev_tree.specs.Canonical.{AreCanonicalTerms, IsCanonicalAtom}
+use Rattle.scev_tree.specs.Value.{sum, product, tree_value, terms_value, atom_value}
+use Rattle.scev_tree.proofs.Arithmetic.{IsBelow, product_closed}
+use Rattle.scev_tree.proofs.AffineValue.{constant_value}
 use Rattle.scev_forms.specs.Trees.{IsTreeOf, AreTreesOf}
 use Rattle.scev_forms.specs.Outcome.{Outcome}
 use Rattle.scev_forms.specs.Polynomials.{terms_of}
 use Rattle.scev_forms.specs.Sums.{recurrence}
 use Rattle.scev_forms.proofs.Outcomes.{Gives}
+use Rattle.scev_forms.proofs.Atoms.{value_below, constant_is_tree}
+use Rattle.scev_forms.proofs.Flat.{trees_have_width, trees_are_canonical, values_of_trees}
 use Rattle.scev_forms.proofs.Kept.{Keeps, keeps_same, keeps_none, keeps_again, plus_zero, times_one, number_semiring}
 
 -- ---- what stands for a value
@@ -61,10 +61,6 @@ module _ (held : ℕ → Option ℕ) (turns : ℕ → ℕ) (w : ℕ) where
   pub stands_kept : (x y : Option ℕ) (tree : Tree) → Keeps x y → Stands y tree → Stands x tree
   stands_kept x y tree keeps h = (h.0, keeps_again x y (tree_value held turns tree) keeps h.1)
 
-  -- the value of a tree is below the modulus
-  pub value_below : (tree : Tree) → IsTreeOf w tree → IsBelow w (tree_value held turns tree)
-  value_below tree h = subst (λ v. IsBelow v (tree_value held turns tree)) h.0 (tree_below held turns tree)
-
   -- its terms are canonical
   pub terms_of_canonical : (tree : Tree) → IsTreeOf w tree → AreCanonicalTerms w (terms_of tree)
   terms_of_canonical (polynomial v ts) h = subst (λ u. AreCanonicalTerms u ts) h.0 h.1
@@ -76,17 +72,7 @@ module _ (held : ℕ → Option ℕ) (turns : ℕ → ℕ) (w : ℕ) where
 
   -- a constant stands for its number
   pub constant_stands : (n : ℕ) → Stands (Some (n % 2 ^ w)) (constant w n)
-  constant_stands n =
-      let below : n % 2 ^ w < 2 ^ w = mod_below n (2 ^ w) (pow_pos w) in
-      cond_both (n % 2 ^ w == 0) (polynomial w no_terms) (polynomial w (term no_factors (n % 2 ^ w) no_terms))
-      (Stands (Some (n % 2 ^ w)))
-      (λ none. ((refl, tt), keeps_same _ _ (ap Some (eqb-true (n % 2 ^ w) 0 none))))
-      (λ some.
-      let ne = eqb-false (n % 2 ^ w) 0 some in
-      let once = one_times w (Some (n % 2 ^ w)) below in (
-        (refl, (tt, tt, omega arith, below, tt, tt)),
-        keeps_same _ _ (sym (ap (λ x. sum w x (Some 0)) once ∙ plus_zero w (Some (n % 2 ^ w)) below)),
-      ))
+  constant_stands n = (constant_is_tree w n, keeps_same _ _ (sym (constant_value held turns w n)))
 
   -- the constant 0
   pub zero_stands : Stands (Some 0) (constant w 0)
@@ -110,14 +96,14 @@ module _ (held : ℕ → Option ℕ) (turns : ℕ → ℕ) (w : ℕ) where
   pub values_below : (trees : List Tree) → AreTreesOf w trees
       → Each (IsBelow w) (map (tree_value held turns) trees)
   values_below [] h = tt
-  values_below (tree ∷ trees) h = (value_below tree h.0, values_below trees h.1)
+  values_below (tree ∷ trees) h = (value_below held turns w tree h.0, values_below trees h.1)
 
   -- so is that of the recurrence
   pub parts_below : (l : ℕ) (trees : List Tree) → AreTreesOf w trees → IsBelow w (parts_value l trees)
   parts_below l [] h = tt
   parts_below l (tree ∷ trees) h =
       value_closed (number_semiring w) (turns l) (tree_value held turns tree) (map (tree_value held turns) trees)
-      (value_below tree h.0) (values_below trees h.1)
+      (value_below held turns w tree h.0) (values_below trees h.1)
 
   -- parts stand for their own value
   pub parts_stand : (l : ℕ) (trees : List Tree) → AreTreesOf w trees → PartsStand l (parts_value l trees) trees
@@ -136,18 +122,6 @@ module _ (held : ℕ → Option ℕ) (turns : ℕ → ℕ) (w : ℕ) where
 
   -- ---- atoms of recurrences
 
-  -- the values of the parts of an atom
-  pub values_of_parts : (parts : Parts)
-      → values (parts_values held turns parts) ≡ map (tree_value held turns) (trees_of parts)
-  values_of_parts no_parts = refl
-  values_of_parts (part tree parts) = ap (λ xs. tree_value held turns tree ∷ xs) (values_of_parts parts)
-
-  -- and of an atom that is made of trees
-  values_of_trees : (trees : List Tree)
-      → values (parts_values held turns (parts_of trees)) ≡ map (tree_value held turns) trees
-  values_of_trees [] = refl
-  values_of_trees (tree ∷ trees) = ap (λ xs. tree_value held turns tree ∷ xs) (values_of_trees trees)
-
   -- the recurrence of a loop with two parts and more
   abbrev pub rec_atom : ℕ → Tree → Tree → List Tree → Atom
   rec_atom l first second trees = atom (kind.Rec (record { 0 = l })) w (parts_of (first ∷ second ∷ trees))
@@ -156,17 +130,7 @@ module _ (held : ℕ → Option ℕ) (turns : ℕ → ℕ) (w : ℕ) where
   pub rec_atom_value : (l : ℕ) (first second : Tree) (trees : List Tree)
       → atom_value held turns (rec_atom l first second trees) ≡ parts_value l (first ∷ second ∷ trees)
   rec_atom_value l first second trees =
-      ap (iterated (sum w) (turns l) (tree_value held turns first)) (values_of_trees (second ∷ trees))
-
-  -- trees of w bits are parts of that width
-  trees_have_width : (trees : List Tree) → AreTreesOf w trees → HaveWidth w (parts_of trees)
-  trees_have_width [] h = tt
-  trees_have_width (tree ∷ trees) h = (h.0.0, trees_have_width trees h.1)
-
-  -- and canonical parts
-  trees_are_canonical : (trees : List Tree) → AreTreesOf w trees → AreCanonicalParts (parts_of trees)
-  trees_are_canonical [] h = tt
-  trees_are_canonical (tree ∷ trees) h = (h.0.1, trees_are_canonical trees h.1)
+      ap (iterated (sum w) (turns l) (tree_value held turns first)) (values_of_trees held turns (second ∷ trees))
 
   -- the atom is canonical where its parts are
   pub rec_atom_canonical : (l : ℕ) (first second : Tree) (trees : List Tree)
@@ -174,8 +138,8 @@ module _ (held : ℕ → Option ℕ) (turns : ℕ → ℕ) (w : ℕ) where
       → IsCanonicalAtom w (rec_atom l first second trees)
   rec_atom_canonical l first second trees h = (
     refl,
-    (omega arith, trees_have_width (first ∷ second ∷ trees) h),
-    trees_are_canonical (first ∷ second ∷ trees) h,
+    (omega arith, trees_have_width w (first ∷ second ∷ trees) h),
+    trees_are_canonical w (first ∷ second ∷ trees) h,
   )
 
   -- the coefficient 1 of an atom doesn't count

@@ -12,7 +12,8 @@ use Rattle.scev_forms.specs.Gather.{is_zero, before_others, without_zeros, trimm
 use Rattle.scev_forms.specs.Sums.{recurrence, tested_parts}
 use Rattle.scev_forms.proofs.Outcomes.{Gives, gives_next, gives_tested}
 use Rattle.scev_forms.proofs.Kept.{plus_zero, number_semiring}
-use Rattle.scev_forms.proofs.Standing.{value_below, parts_value, PartsStand}
+use Rattle.scev_forms.proofs.Atoms.{value_below}
+use Rattle.scev_forms.proofs.Standing.{parts_value, PartsStand}
 
 module _ (held : ℕ → Option ℕ) (turns : ℕ → ℕ) (w : ℕ) where
   -- the values of trees
@@ -20,7 +21,7 @@ module _ (held : ℕ → Option ℕ) (turns : ℕ → ℕ) (w : ℕ) where
   values_of trees = map (tree_value held turns) trees
 
   -- a tree that is told to be 0 has that value
-  zero_value : (tree : Tree) → is_zero tree ≡ true → tree_value held turns tree ≡ Some 0
+  pub zero_value : (tree : Tree) → is_zero tree ≡ true → tree_value held turns tree ≡ Some 0
   zero_value (polynomial v no_terms) h = refl
   zero_value (polynomial v (term f n ts)) h = absurd cc
 

@@ -15,12 +15,13 @@ use Rattle.scev_tree.specs.Canonical.{HaveWidth, HasParts, IsCanonical, AreCanon
 use Rattle.scev_tree.specs.Canonical.{IsCanonicalAtom, AreCanonicalParts}
 use Rattle.scev_tree.specs.Value.{sum, product, values, tree_value, terms_value, factors_value, atom_value}
 use Rattle.scev_tree.specs.Value.{parts_values}
+use Rattle.scev_tree.proofs.AffineValue.{constant_value}
 use Rattle.scev_forms.specs.Outcome.{Done}
 use Rattle.scev_forms.specs.Trees.{IsTreeOf}
 use Rattle.scev_forms.specs.Sums.{recurrence_of}
 use Rattle.scev_forms.specs.Atoms.{made}
 use Rattle.scev_forms.specs.Casts.{truncated, truncated_terms, truncated_factors, truncated_atom, truncated_parts}
-use Rattle.scev_forms.proofs.Atoms.{number_fits, number_small, constant_is_tree, constant_value, constant_same}
+use Rattle.scev_forms.proofs.Atoms.{number_fits, number_small, constant_is_tree, constant_same}
 use Rattle.scev_forms.proofs.Atoms.{atom_is_tree, of_atom_value, made_value}
 use Rattle.scev_forms.proofs.SumsFormed.{sum_canonical, product_canonical, sum_value, product_value, recurrence_value}
 use Rattle.scev_forms.proofs.Readings.{pow_more, residue_reading}

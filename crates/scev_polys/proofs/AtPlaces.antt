@@ -1,9 +1,7 @@
 -- Terms over places of an arena as plain terms.
-use Rattle.std.proofs.Common.{◌≡◌, ℕ, suc, ◌%◌, ◌^◌, true, false, ◌==◌, if◌then◌else◌, List, [], ◌∷◌, ◌++◌, length}
-use Rattle.std.proofs.Common.{refl, ap, ◌∙◌}
+use Rattle.std.proofs.Common.{◌≡◌, ℕ, ◌%◌, ◌^◌, true, false, ◌==◌, if◌then◌else◌, List, [], ◌∷◌, ◌++◌, refl, ap, ◌∙◌}
 use Rattle.scev_base.specs.declared.ids.ExprId.{ExprId}
 use Rattle.scev_tree.specs.Tree.{Terms, Factors, no_terms, term, no_factors, factor}
-use Rattle.scev_tree.specs.Order.{count_terms, count_factors}
 use Rattle.scev_tree.specs.Canonical.{before_terms, IsBefore, AreCanonicalTerms}
 use Rattle.poly_terms.specs.declared.term.Term.{Term}
 use Rattle.scev_arena.specs.declared.node.Node.{Node}
@@ -45,15 +43,6 @@ module _ (meant : List Meant) where
       → factors_at meant (xs ++ ys) ≡ factors_appended (factors_at meant xs) (factors_at meant ys)
   factors_both [] ys = refl
   factors_both (x ∷ xs) ys = ap (factor (atom_at meant x)) (factors_both xs ys)
-
-  -- as many of each
-  pub as_many_terms : (ts : List Term) → count_terms (terms_at meant ts) ≡ length ts
-  as_many_terms [] = refl
-  as_many_terms (t ∷ ts) = ap suc (as_many_terms ts)
-
-  pub as_many_factors : (ids : List ExprId) → count_factors (factors_at meant ids) ≡ length ids
-  as_many_factors [] = refl
-  as_many_factors (id ∷ ids) = ap suc (as_many_factors ids)
 
   -- ---- one more at the end, and then the others
 

@@ -8,10 +8,12 @@ use Rattle.scev_tree.specs.Tree.{Terms, Factors, no_terms, term}
 use Rattle.scev_tree.specs.Order.{lower, monomial_code, same_monomial}
 use Rattle.scev_tree.specs.Canonical.{before_terms, with_term, IsBefore, AreCanonicalTerms}
 use Rattle.scev_forms.specs.Polynomials.{terms_sum}
+use Rattle.scev_forms.proofs.Polynomials.{terms_sum_canonical}
 use Rattle.scev_tree.proofs.Codes.{one_monomial}
+use Rattle.scev_tree.proofs.Inserted.{before_again}
 use Rattle.scev_tree.proofs.Lower.{cases_lower, told_same, same_itself}
 use Rattle.poly_terms.proofs.WeightLemmas.{sum_residue}
-use Rattle.scev_polys.proofs.Merges.{higher_apart, before_again, sum_canonical}
+use Rattle.scev_polys.proofs.Merges.{higher_apart}
 
 -- what a term of the first monomial gives to the second one
 abbrev pub part : Factors → ℕ → Factors → ℕ
@@ -195,8 +197,8 @@ pub sum_grouped : (w : ℕ) (ts us vs : Terms)
     → terms_sum w (terms_sum w ts us) vs ≡ terms_sum w ts (terms_sum w us vs)
 sum_grouped w ts us vs ht hu hv =
     one_list w (terms_sum w (terms_sum w ts us) vs) (terms_sum w ts (terms_sum w us vs))
-    (sum_canonical w (terms_sum w ts us) vs (sum_canonical w ts us ht hu) hv)
-    (sum_canonical w ts (terms_sum w us vs) ht (sum_canonical w us vs hu hv))
+    (terms_sum_canonical w (terms_sum w ts us) vs (terms_sum_canonical w ts us ht hu) hv)
+    (terms_sum_canonical w ts (terms_sum w us vs) ht (terms_sum_canonical w us vs hu hv))
     (λ g.
     let a = coefficient_of ts g in
     let b = coefficient_of us g in

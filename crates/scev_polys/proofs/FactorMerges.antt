@@ -1,52 +1,17 @@
 -- The product of monomials whose factors ascend, factor by factor, as one merge of both lists gives it.
 use Rattle.std.proofs.Common.{◌≡◌, true, false, inl, inr, refl, sym, ap, ◌∙◌}
-use Rattle.std.proofs.lemmas.Bool.{cond_both, cond-true, cond-false}
 use Rattle.scev_tree.specs.Tree.{Factors, Atom, no_factors, factor}
 use Rattle.scev_tree.specs.Order.{lower, atom_code}
 use Rattle.scev_tree.specs.Canonical.{with_factor, joined_factors, AreFrom, Ascend}
-use Rattle.scev_tree.proofs.Lower.{lower_again, cases_lower, from_again}
-
--- an atom before a factor that isn't lower
-pub first_factor : (a b : Atom) (f : Factors)
-    → lower (atom_code b) (atom_code a) ≡ false
-    → with_factor a (factor b f) ≡ factor a (factor b f)
-first_factor a b f h =
-    cond-false (lower (atom_code b) (atom_code a)) (factor b (with_factor a f)) (factor a (factor b f)) h
-
--- an atom behind a lower factor
-pub later_factor : (a b : Atom) (f : Factors)
-    → lower (atom_code b) (atom_code a) ≡ true
-    → with_factor a (factor b f) ≡ factor b (with_factor a f)
-later_factor a b f h =
-    cond-true (lower (atom_code b) (atom_code a)) (factor b (with_factor a f)) (factor a (factor b f)) h
+use Rattle.scev_tree.proofs.Inserted.{first_factor, later_factor, from_lower, from_with_factor}
+use Rattle.scev_tree.proofs.Lower.{lower_again, cases_lower}
 
 -- an atom before factors of which none is lower
 least_factor : (a : Atom) (f : Factors) → AreFrom a f → with_factor a f ≡ factor a f
 least_factor a no_factors h = refl
 least_factor a (factor b f) h = first_factor a b f h.0
 
--- factors that aren't lower than one atom aren't lower than one that it isn't lower than
-from_lower : (low a : Atom) (f : Factors)
-    → lower (atom_code a) (atom_code low) ≡ false
-    → AreFrom a f
-    → AreFrom low f
-from_lower low a no_factors h all = tt
-from_lower low a (factor b f) h all = (
-  from_again (atom_code low) (atom_code a) (atom_code b) h all.0,
-  from_lower low a f h all.1,
-)
-
 -- what an atom isn't above of one list and of the other, it isn't above of the product
-from_with_factor : (low a : Atom) (f : Factors)
-    → lower (atom_code a) (atom_code low) ≡ false
-    → AreFrom low f
-    → AreFrom low (with_factor a f)
-from_with_factor low a no_factors h all = (h, tt)
-from_with_factor low a (factor b f) h all =
-    cond_both (lower (atom_code b) (atom_code a)) (factor b (with_factor a f)) (factor a (factor b f)) (AreFrom low)
-    (λ _. (all.0, from_with_factor low a f h all.1))
-    (λ _. (h, all))
-
 from_joined : (low : Atom) (f g : Factors) → AreFrom low f → AreFrom low g → AreFrom low (joined_factors f g)
 from_joined low no_factors g h h' = h'
 from_joined low (factor a f) g h h' = from_with_factor low a (joined_factors f g) h.0 (from_joined low f g h.1 h')

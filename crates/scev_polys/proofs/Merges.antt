@@ -1,12 +1,12 @@
 -- The sum of canonical polynomials, term by term, as one merge of both lists gives it.
 use Rattle.std.proofs.Common.{◌≡◌, ℕ, ◌+◌, ◌%◌, ◌^◌, ◌<◌, true, false, ◌==◌, refl, ap, ◌∙◌, arith, mod-eq_of_lt}
-use Rattle.std.proofs.lemmas.Bool.{cond_both, cond-true, cond-false, ne_eqb, false_from_ne_true}
+use Rattle.std.proofs.lemmas.Bool.{cond-true, cond-false, ne_eqb, false_from_ne_true}
 use Rattle.scev_tree.specs.Tree.{Terms, Factors, no_terms, term}
 use Rattle.scev_tree.specs.Order.{lower, monomial_code, same_monomial}
 use Rattle.scev_tree.specs.Canonical.{before_terms, with_term, IsBefore, AreCanonicalTerms}
 use Rattle.scev_forms.specs.Polynomials.{terms_sum}
-use Rattle.scev_tree.proofs.Inserted.{with_term_canonical}
-use Rattle.scev_tree.proofs.Lower.{lower_again, never_lower, never_both, told_same, same_itself}
+use Rattle.scev_tree.proofs.Inserted.{with_term_behind}
+use Rattle.scev_tree.proofs.Lower.{never_lower, never_both, told_same, same_itself}
 
 -- the first terms, and then the others
 abbrev pub appended : Terms → Terms → Terms
@@ -61,38 +61,6 @@ same_term : (w : ℕ) (f : Factors) (n m : ℕ) (ts : Terms)
     → with_term w f n (term f m ts) ≡ before_terms w f (n + m) ts
 same_term w f n m ts = cond-true (same_monomial f f) _ _ (same_itself (monomial_code f))
 
--- what stands before a monomial stands before the terms behind that
-pub before_again : (f g : Factors) (ts : Terms)
-    → lower (monomial_code f) (monomial_code g) ≡ true
-    → IsBefore g ts
-    → IsBefore f ts
-before_again f g no_terms h all = tt
-before_again f g (term other n ts) h all = (
-  lower_again (monomial_code f) (monomial_code g) (monomial_code other) h all.0,
-  before_again f g ts h all.1,
-)
-
--- a monomial put before terms stands behind a lower one
-before_terms_behind : (g : Factors) (w : ℕ) (f : Factors) (n : ℕ) (ts : Terms)
-    → lower (monomial_code g) (monomial_code f) ≡ true
-    → IsBefore g ts
-    → IsBefore g (before_terms w f n ts)
-before_terms_behind g w f n ts h before =
-    cond_both (n % 2 ^ w == 0) ts (term f (n % 2 ^ w) ts) (IsBefore g) (λ _. before) (λ _. (h, before))
-
--- a monomial put among terms stands behind a lower one
-pub with_term_behind : (g : Factors) (w : ℕ) (f : Factors) (n : ℕ) (ts : Terms)
-    → lower (monomial_code g) (monomial_code f) ≡ true
-    → IsBefore g ts
-    → IsBefore g (with_term w f n ts)
-with_term_behind g w f n no_terms h before = before_terms_behind g w f n no_terms h before
-with_term_behind g w f n (term other m ts) h before =
-    cond_both (same_monomial f other) _ _ (IsBefore g)
-    (λ _. before_terms_behind g w f (n + m) ts h before.1)
-    (λ _. cond_both (lower (monomial_code other) (monomial_code f)) _ _ (IsBefore g)
-    (λ _. (before.0, with_term_behind g w f n ts h before.1))
-    (λ _. before_terms_behind g w f n (term other m ts) h before))
-
 -- ---- sums
 
 -- what stands before both sides stands before the sum
@@ -139,13 +107,3 @@ unfolding terms_sum
 sum_with_none w no_terms h = refl
 sum_with_none w (term f n ts) h =
     ap (with_term w f n) (sum_with_none w ts h.5) ∙ first_term w f n ts h.4 ∙ residue_stays w f n ts h.2 h.3
-
--- The sum of canonical terms is canonical.
-pub sum_canonical : (w : ℕ) (ts us : Terms)
-    → AreCanonicalTerms w ts
-    → AreCanonicalTerms w us
-    → AreCanonicalTerms w (terms_sum w ts us)
-unfolding terms_sum
-sum_canonical w no_terms us h h' = h'
-sum_canonical w (term f n ts) us h h' =
-    with_term_canonical w f n (terms_sum w ts us) h.0 h.1 (sum_canonical w ts us h.5 h')

@@ -1,42 +1,17 @@
 -- Products of monomials with one monomial keep their order.
-use Rattle.std.proofs.Common.{◌≡◌, ℕ, suc, ◌<◌, Bool, true, false, ◌&&◌, ◌||◌, nat_lt, ◌==◌, ◌⊎◌, inl, inr, List, []}
+use Rattle.std.proofs.Common.{◌≡◌, ℕ, suc, true, false, ◌⊎◌, inl, inr, List, []}
 use Rattle.std.proofs.Common.{◌∷◌, ◌++◌, refl, sym, ap, ◌∙◌, subst, arith}
-use Rattle.std.proofs.lemmas.Bool.{cond_both, cases_order}
-use Rattle.std.proofs.lemmas.Bool.Decides.{nat_tests}
+use Rattle.std.proofs.lemmas.Bool.{cond_both}
 use Rattle.std.proofs.lemmas.List.{append-nil}
 use Rattle.scev_tree.specs.Tree.{Factors, Atom, no_factors, factor}
 use Rattle.scev_tree.specs.Order.{lower, count_factors, factors_code, atom_code, monomial_code}
 use Rattle.scev_tree.specs.Canonical.{with_factor, joined_factors}
 use Rattle.scev_tree.proofs.Codes.{one_atom, atoms_apart}
+use Rattle.scev_tree.proofs.Inserted.{first_factor, later_factor}
+use Rattle.scev_tree.proofs.Lower.{lower_first, same_first, lower_cases}
 use Rattle.scev_tree.proofs.Lower.{cases_lower, never_lower, never_both, from_again}
-use Rattle.scev_polys.proofs.FactorMerges.{first_factor, later_factor}
 
 -- ---- lists of numbers
-
--- the lower first number decides
-lower_first : (m n : ℕ) (b : Bool) → m < n → (nat_lt m n || ((m == n) && b)) ≡ true
-lower_first m n b h = grind (arith, nat_tests)
-
--- a higher first number decides too
-higher_first : (m n : ℕ) (b : Bool) → n < m → (nat_lt m n || ((m == n) && b)) ≡ false
-higher_first m n b h = grind (arith, nat_tests)
-
--- of one first number the rest decides
-same_first : (m n : ℕ) (b : Bool) → m ≡ n → (nat_lt m n || ((m == n) && b)) ≡ b
-same_first m n b h = grind (arith, nat_tests)
-
--- the first numbers of two lists of which one is lower, or these are one and it is lower behind them
-lower_cases : (m n : ℕ) (ms ns : List ℕ)
-    → lower (m ∷ ms) (n ∷ ns) ≡ true
-    → (m < n) ⊎ ((m ≡ n) × (lower ms ns ≡ true))
-lower_cases m n ms ns h =
-    elim (cases_order m n) [
-      | inl e ↦ inr (e, sym (same_first m n (lower ms ns) e) ∙ h)
-      | inr o ↦ elim o [
-        | inl lt ↦ inl lt
-        | inr gt ↦ absurd (let no = higher_first m n (lower ms ns) gt in cc)
-      ]
-    ]
 
 -- behind one beginning the rest decides
 behind_same : (p x y : List ℕ) → lower (p ++ x) (p ++ y) ≡ lower x y

@@ -1,12 +1,11 @@
 -- Products of polynomials by rows: one term with each of the other side.
 use Rattle.std.proofs.Common.{◌≡◌, ℕ, ◌*◌, refl, sym, ap, ◌∙◌}
 use Rattle.scev_tree.specs.Tree.{Terms, Factors, no_terms, term}
-use Rattle.scev_tree.specs.Canonical.{joined_factors, before_terms, IsBefore}
-use Rattle.scev_tree.specs.Canonical.{AreCanonicalTerms, AreCanonicalFactors}
-use Rattle.scev_tree.proofs.Inserted.{joined_factors_ascend, joined_factors_canonical, with_term_canonical}
+use Rattle.scev_tree.specs.Canonical.{joined_factors, before_terms, IsBefore, AreCanonicalTerms}
+use Rattle.scev_tree.proofs.Inserted.{with_term_behind}
 use Rattle.scev_forms.specs.Polynomials.{terms_sum, terms_multiple, terms_product}
-use Rattle.scev_polys.proofs.Merges.{appended, first_term, with_term_behind, sum_of_none, sum_with_none}
-use Rattle.scev_polys.proofs.Merges.{sum_canonical}
+use Rattle.scev_forms.proofs.Polynomials.{terms_multiple_canonical, terms_product_canonical}
+use Rattle.scev_polys.proofs.Merges.{appended, first_term, sum_of_none, sum_with_none}
 use Rattle.scev_polys.proofs.Coefficients.{sum_grouped}
 use Rattle.scev_polys.proofs.ProductOrder.{joined_keeps}
 
@@ -34,29 +33,7 @@ pub multiple_of_none : (w : ℕ) (f : Factors) (n : ℕ) → terms_multiple w f 
 unfolding terms_multiple
 multiple_of_none w f n = refl
 
--- A row is canonical.
-pub multiple_canonical : (w : ℕ) (f : Factors) (n : ℕ) (ts : Terms)
-    → AreCanonicalFactors w f
-    → AreCanonicalTerms w ts
-    → AreCanonicalTerms w (terms_multiple w f n ts)
-unfolding terms_multiple
-multiple_canonical w f n no_terms h h' = tt
-multiple_canonical w f n (term g m ts) h h' =
-    with_term_canonical w (joined_factors f g) (n * m) (terms_multiple w f n ts) (joined_factors_ascend f g h'.0)
-    (joined_factors_canonical w f g h h'.1) (multiple_canonical w f n ts h h'.5)
-
 -- ---- all rows
-
--- A product is canonical.
-pub product_canonical : (w : ℕ) (ts us : Terms)
-    → AreCanonicalTerms w ts
-    → AreCanonicalTerms w us
-    → AreCanonicalTerms w (terms_product w ts us)
-unfolding terms_product
-product_canonical w no_terms us h h' = tt
-product_canonical w (term f n ts) us h h' =
-    sum_canonical w (terms_multiple w f n us) (terms_product w ts us) (multiple_canonical w f n us h.1 h')
-    (product_canonical w ts us h.5 h')
 
 -- no row, and one
 pub product_of_none : (w : ℕ) (us : Terms) → terms_product w no_terms us ≡ no_terms
@@ -68,7 +45,7 @@ pub product_of_one : (w : ℕ) (f : Factors) (n : ℕ) (us : Terms)
     → AreCanonicalTerms w us
     → terms_product w (term f n no_terms) us ≡ terms_multiple w f n us
 unfolding terms_product
-product_of_one w f n us h h' = sum_with_none w (terms_multiple w f n us) (multiple_canonical w f n us h.1 h')
+product_of_one w f n us h h' = sum_with_none w (terms_multiple w f n us) (terms_multiple_canonical w f n us h.1 h')
 
 -- The rows of both parts of the left side.
 pub product_of_both : (w : ℕ) (ss ts us : Terms)
@@ -81,5 +58,5 @@ product_of_both w no_terms ts us hs ht hu = sym (sum_of_none w (terms_product w 
 product_of_both w (term f n ss) ts us hs ht hu =
     let row = terms_multiple w f n us in
     ap (terms_sum w row) (product_of_both w ss ts us hs.5 ht hu)
-    ∙ sym (sum_grouped w row (terms_product w ss us) (terms_product w ts us) (multiple_canonical w f n us hs.1 hu)
-    (product_canonical w ss us hs.5 hu) (product_canonical w ts us ht hu))
+    ∙ sym (sum_grouped w row (terms_product w ss us) (terms_product w ts us) (terms_multiple_canonical w f n us hs.1 hu)
+    (terms_product_canonical w ss us hs.5 hu) (terms_product_canonical w ts us ht hu))

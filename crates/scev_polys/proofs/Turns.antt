@@ -5,13 +5,14 @@ use Rattle.scev_base.specs.declared.ids.ExprId.{ExprId}
 use Rattle.scev_tree.specs.Tree.{Terms, term}
 use Rattle.scev_tree.specs.Order.{lower, monomial_code}
 use Rattle.scev_tree.specs.Canonical.{joined_factors, before_terms}
+use Rattle.scev_tree.proofs.Inserted.{before_again}
 use Rattle.poly_terms.specs.declared.term.Term.{Term}
 use Rattle.scev_arena.specs.declared.node.Node.{Node}
 use Rattle.scev_arena.specs.Meaning.{meanings, factors_at, terms_at}
 use Rattle.scev_arena.specs.Standing.{AreAtoms, AreOverAtoms}
 use Rattle.scev_forms.specs.Polynomials.{terms_sum, terms_multiple}
 use Rattle.scev_polys.specs.Polynomials.{IsPolynomial, term_or_none}
-use Rattle.scev_polys.proofs.Merges.{appended, before_again, left_first, right_first, both_first}
+use Rattle.scev_polys.proofs.Merges.{appended, left_first, right_first, both_first}
 use Rattle.scev_polys.proofs.Merges.{sum_of_none, sum_with_none}
 use Rattle.scev_polys.proofs.Rows.{multiple_first, multiple_of_none}
 use Rattle.scev_polys.proofs.AtPlaces.{terms_both, appended_none, appended_again, term_behind}

@@ -29,7 +29,7 @@ LeafFits held w (kind.Leaf register loop) = IsBelow w (held register.0)
 LeafFits held w _ = Unit {0}
 
 -- a residue is below the modulus
-residue_below : (w : ℕ) (z : ℤ) → residue w z < 2 ^ w
+pub residue_below : (w : ℕ) (z : ℤ) → residue w z < 2 ^ w
 residue_below w (pos n) = mod_below n (2 ^ w) (pow_pos w)
 residue_below w (negsuc n) =
     let some : 0 < 2 ^ w = pow_pos w in

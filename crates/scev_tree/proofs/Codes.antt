@@ -48,7 +48,7 @@ one_kind (kind.Leaf r (Some l)) (kind.Leaf s (Some m)) x y _ e =
 one_kind _ _ x y r e = absurd cc
 
 -- coefficients of as many terms
-coefficients_apart : (s t : Terms) (x y : List ℕ)
+pub coefficients_apart : (s t : Terms) (x y : List ℕ)
     → count_terms s ≡ count_terms t
     → coefficients s ++ x ≡ coefficients t ++ y
     → (coefficients s ≡ coefficients t) × (x ≡ y)

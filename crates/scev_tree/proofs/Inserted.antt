@@ -15,21 +15,21 @@ use Rattle.scev_tree.proofs.Lower.{lower_again, cases_lower, never_both, from_ag
 -- ---- factors
 
 -- an atom stands before a factor that isn't lower
-first_factor : (a b : Atom) (f : Factors)
+pub first_factor : (a b : Atom) (f : Factors)
     → lower (atom_code b) (atom_code a) ≡ false
     → with_factor a (factor b f) ≡ factor a (factor b f)
 first_factor a b f h =
     cond-false (lower (atom_code b) (atom_code a)) (factor b (with_factor a f)) (factor a (factor b f)) h
 
 -- an atom stands behind a lower factor
-later_factor : (a b : Atom) (f : Factors)
+pub later_factor : (a b : Atom) (f : Factors)
     → lower (atom_code b) (atom_code a) ≡ true
     → with_factor a (factor b f) ≡ factor b (with_factor a f)
 later_factor a b f h =
     cond-true (lower (atom_code b) (atom_code a)) (factor b (with_factor a f)) (factor a (factor b f)) h
 
 -- factors that aren't lower than one atom aren't lower than one below it
-from_lower : (low a : Atom) (f : Factors)
+pub from_lower : (low a : Atom) (f : Factors)
     → lower (atom_code a) (atom_code low) ≡ false
     → AreFrom a f
     → AreFrom low f
@@ -40,7 +40,7 @@ from_lower low a (factor b f) h all = (
 )
 
 -- an atom that isn't lower than another joins factors that aren't
-from_with_factor : (low a : Atom) (f : Factors)
+pub from_with_factor : (low a : Atom) (f : Factors)
     → lower (atom_code a) (atom_code low) ≡ false
     → AreFrom low f
     → AreFrom low (with_factor a f)
@@ -151,7 +151,7 @@ joined_factors_canonical w (factor a f) g h hs =
 -- ---- terms
 
 -- what stands before a monomial stands before the terms behind that
-before_again : (f g : Factors) (ts : Terms)
+pub before_again : (f g : Factors) (ts : Terms)
     → lower (monomial_code f) (monomial_code g) ≡ true
     → IsBefore g ts
     → IsBefore f ts
@@ -180,7 +180,7 @@ before_terms_canonical w f c ts ascends atoms before rest =
     (λ some. (ascends, atoms, some_coefficient w c some, mod_below c (2 ^ w) (pow_pos w), before, rest))
 
 -- a monomial put before terms stands behind a lower one
-before_terms_behind : (g : Factors) (w : ℕ) (f : Factors) (c : ℕ) (ts : Terms)
+pub before_terms_behind : (g : Factors) (w : ℕ) (f : Factors) (c : ℕ) (ts : Terms)
     → lower (monomial_code g) (monomial_code f) ≡ true
     → IsBefore g ts
     → IsBefore g (before_terms w f c ts)
@@ -188,7 +188,7 @@ before_terms_behind g w f c ts h before =
     cond_both (c % 2 ^ w == 0) ts (term f (c % 2 ^ w) ts) (IsBefore g) (λ _. before) (λ _. (h, before))
 
 -- a monomial put among terms stands behind a lower one
-with_term_behind : (g : Factors) (w : ℕ) (f : Factors) (c : ℕ) (ts : Terms)
+pub with_term_behind : (g : Factors) (w : ℕ) (f : Factors) (c : ℕ) (ts : Terms)
     → lower (monomial_code g) (monomial_code f) ≡ true
     → IsBefore g ts
     → IsBefore g (with_term w f c ts)

@@ -3,6 +3,7 @@ pub mod Lower
 pub mod Inserted
 pub mod Arithmetic
 pub mod Values
+pub mod AffineValue
 pub mod Below
 pub mod Leaves
 pub mod Invariance

@@ -7,19 +7,19 @@ use Rattle.std.proofs.lemmas.Bool.{cases_order}
 use Rattle.scev_tree.specs.Order.{lower, same_code}
 
 -- the lower first number decides
-lower_first : (m n : ℕ) (b : Bool) → m < n → (nat_lt m n || ((m == n) && b)) ≡ true
+pub lower_first : (m n : ℕ) (b : Bool) → m < n → (nat_lt m n || ((m == n) && b)) ≡ true
 lower_first m n b h = grind (arith, nat_tests)
 
 -- a higher first number decides too
-higher_first : (m n : ℕ) (b : Bool) → n < m → (nat_lt m n || ((m == n) && b)) ≡ false
+pub higher_first : (m n : ℕ) (b : Bool) → n < m → (nat_lt m n || ((m == n) && b)) ≡ false
 higher_first m n b h = grind (arith, nat_tests)
 
 -- of one first number the rest decides
-same_first : (m n : ℕ) (b : Bool) → m ≡ n → (nat_lt m n || ((m == n) && b)) ≡ b
+pub same_first : (m n : ℕ) (b : Bool) → m ≡ n → (nat_lt m n || ((m == n) && b)) ≡ b
 same_first m n b h = grind (arith, nat_tests)
 
 -- the first numbers of two lists of which one is lower, or these are one and it is lower behind them
-lower_cases : (m n : ℕ) (ms ns : List ℕ)
+pub lower_cases : (m n : ℕ) (ms ns : List ℕ)
     → lower (m ∷ ms) (n ∷ ns) ≡ true
     → (m < n) ⊎ ((m ≡ n) × (lower ms ns ≡ true))
 lower_cases m n ms ns h =

@@ -1,11 +1,12 @@
 -- The order of codes, number by number.
-use Rattle.std.proofs.Common.{◌≡◌, ℕ, ◌<◌, Bool, true, ◌&&◌, ◌||◌, nat_lt, ◌==◌, List, [], ◌∷◌, ◌++◌}
-use Rattle.std.proofs.Common.{Ordering, Less, Equal, Greater, refl, sym, ap, ◌∙◌, arith}
+use Rattle.std.proofs.Common.{◌≡◌, ℕ, true, List, [], ◌∷◌, ◌++◌, Ordering, Less, Equal, Greater, refl, sym, ap, ◌∙◌}
+use Rattle.std.proofs.Common.{arith}
 use Rattle.std.specs.Ordering.{MatchOrdering, nat_cmp, ordering_then}
 use Rattle.std.proofs.lemmas.Bool.Decides.{nat_tests}
 use Rattle.std.proofs.lemmas.Cmp.{ranked}
 use Rattle.std.proofs.lemmas.List.{append-nil}
 use Rattle.scev_tree.specs.Order.{lower}
+use Rattle.scev_tree.proofs.Lower.{lower_first, same_first}
 use Rattle.scev_walk.specs.Reading.{code_order}
 
 -- ---- orders, one after another
@@ -46,22 +47,16 @@ pub code_itself : (code : List ℕ) → code_order code code ≡ Equal
 code_itself [] = refl
 code_itself (n ∷ code) = ap (λ o. ordering_then o (code_order code code)) (number_itself n) ∙ code_itself code
 
-first_lower : (m n : ℕ) (b : Bool) → m < n → (nat_lt m n || ((m == n) && b)) ≡ true
-first_lower m n b h = grind (arith, nat_tests)
-
-first_same : (m n : ℕ) (b : Bool) → m ≡ n → b ≡ true → (nat_lt m n || ((m == n) && b)) ≡ true
-first_same m n b h rest = grind (arith, nat_tests)
-
 -- one number more in front
 more : (m n : ℕ) (ms ns : List ℕ) (o r : Ordering) → o ≡ nat_cmp m n
     → MatchOrdering r (lower ms ns ≡ true) (ms ≡ ns) (lower ns ms ≡ true)
     → MatchOrdering (ordering_then o r) (lower (m ∷ ms) (n ∷ ns) ≡ true) (m ∷ ms ≡ n ∷ ns)
     (lower (n ∷ ns) (m ∷ ms) ≡ true)
-more m n ms ns Less r e h = first_lower m n (lower ms ns) (ranked m n Less e)
-more m n ms ns Equal Less e h = first_same m n (lower ms ns) (ranked m n Equal e) h
+more m n ms ns Less r e h = lower_first m n (lower ms ns) (ranked m n Less e)
+more m n ms ns Equal Less e h = same_first m n (lower ms ns) (ranked m n Equal e) ∙ h
 more m n ms ns Equal Equal e h = let first : m ≡ n = ranked m n Equal e in cc
-more m n ms ns Equal Greater e h = first_same n m (lower ns ms) (sym (ranked m n Equal e)) h
-more m n ms ns Greater r e h = first_lower n m (lower ns ms) (ranked m n Greater e)
+more m n ms ns Equal Greater e h = same_first n m (lower ns ms) (sym (ranked m n Equal e)) ∙ h
+more m n ms ns Greater r e h = lower_first n m (lower ns ms) (ranked m n Greater e)
 
 -- the order is that of `lower`
 pub order_tells : (a b : List ℕ)

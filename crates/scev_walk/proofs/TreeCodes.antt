@@ -4,7 +4,7 @@ use Rattle.std.specs.Ordering.{nat_cmp, ordering_then}
 use Rattle.scev_tree.specs.Tree.{Tree, Terms, Factors, Atom, Parts, polynomial, no_terms, term, factor, part}
 use Rattle.scev_tree.specs.Order.{count_terms, count_factors, coefficients}
 use Rattle.scev_tree.specs.Order.{tree_code, terms_code, factors_code, atom_code, parts_code, monomial_code}
-use Rattle.scev_tree.proofs.Codes.{trees_apart, factors_apart, atoms_apart}
+use Rattle.scev_tree.proofs.Codes.{trees_apart, factors_apart, atoms_apart, coefficients_apart}
 use Rattle.scev_walk.specs.Reading.{code_order}
 use Rattle.scev_walk.proofs.CodeOrder.{number_itself, codes_then, then_equal, first_decides}
 
@@ -29,17 +29,6 @@ monomial_lists_apart (term f c s) (term g d t) x y n e =
     let first = monomials_apart f g (terms_code s ++ x) (terms_code t ++ y) (sym left ∙ e ∙ right) in
     let rest : terms_code s ≡ terms_code t = monomial_lists_apart s t x y (cc) first.1 in
     ap (λ h. monomial_code h ++ terms_code s) first.0 ∙ ap (λ code. monomial_code g ++ code) rest
-
-coefficient_lists_apart : (s t : Terms) (x y : List ℕ) → count_terms s ≡ count_terms t
-    → coefficients s ++ x ≡ coefficients t ++ y
-    → coefficients s ≡ coefficients t
-coefficient_lists_apart no_terms no_terms x y n e = refl
-coefficient_lists_apart no_terms (term g d t) x y n e = absurd cc
-coefficient_lists_apart (term f c s) no_terms x y n e = absurd cc
-coefficient_lists_apart (term f c s) (term g d t) x y n e =
-    let rest : coefficients s ≡ coefficients t = coefficient_lists_apart s t x y (cc) (cc) in
-    let first : c ≡ d = cc in
-    cc
 
 -- ---- part by part
 
@@ -79,7 +68,7 @@ tree_parts w v s t n =
     ∙ codes_then (terms_code s) (terms_code t) (coefficients s ++ w ∷ []) (coefficients t ++ v ∷ [])
     (λ x y e. monomial_lists_apart s t x y n e)
     ∙ ap (ordering_then (code_order (terms_code s) (terms_code t)))
-    (codes_then (coefficients s) (coefficients t) (w ∷ []) (v ∷ []) (λ x y e. coefficient_lists_apart s t x y n e)
+    (codes_then (coefficients s) (coefficients t) (w ∷ []) (v ∷ []) (λ x y e. (coefficients_apart s t x y n e).0)
     ∙ ap (ordering_then (code_order (coefficients s) (coefficients t))) (width_last w v))
 
 -- Where the counts differ they decide.

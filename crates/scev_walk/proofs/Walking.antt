@@ -4,11 +4,12 @@ use Rattle.std.proofs.Common.{refl, sym, ap, ◌∙◌, arith}
 use Rattle.std.specs.Ordering.{ordering_then}
 use Rattle.scev_base.specs.declared.ids.ExprId.{ExprId}
 use Rattle.scev_tree.specs.Tree.{parts_of}
-use Rattle.scev_tree.specs.Order.{count_terms, count_factors, count_parts}
+use Rattle.scev_tree.specs.Order.{count_parts}
 use Rattle.scev_tree.specs.Order.{tree_code, terms_code, factors_code, atom_code, parts_code, monomial_code}
 use Rattle.poly_terms.specs.declared.term.Term.{Term}
 use Rattle.scev_arena.specs.declared.node.Node.{Node}
 use Rattle.scev_arena.specs.Meaning.{Meant, meanings, tree_in, atom_in, tree_of, atom_of, atom_at, factors_at, terms_at}
+use Rattle.scev_arena.proofs.NodesMeasured.{as_many_parts}
 use Rattle.scev_walk.specs.Reading.{code_order}
 use Rattle.scev_walk.proofs.CodeOrder.{code_itself}
 use Rattle.scev_walk.proofs.TreeCodes.{factor_first, part_first, monomial_first}
@@ -31,18 +32,9 @@ one_atom_there nodes x y e =
 
 pub count_of_parts : (nodes : List Node) (ids : List ExprId)
     → count_parts (parts_of (map (tree_of nodes) ids)) ≡ length ids
-count_of_parts nodes [] = refl
-count_of_parts nodes (id ∷ ids) = ap suc (count_of_parts nodes ids)
+count_of_parts nodes ids = as_many_parts nodes ids
 
 module _ (meant : List Meant) where
-  pub count_of_terms : (ts : List Term) → count_terms (terms_at meant ts) ≡ length ts
-  count_of_terms [] = refl
-  count_of_terms (t ∷ ts) = ap suc (count_of_terms ts)
-
-  pub count_of_factors : (ids : List ExprId) → count_factors (factors_at meant ids) ≡ length ids
-  count_of_factors [] = refl
-  count_of_factors (id ∷ ids) = ap suc (count_of_factors ids)
-
   pub same_monomials : (xs ys l r : List ExprId) → xs ≡ l → ys ≡ r
       → code_order (monomial_code (factors_at meant xs)) (monomial_code (factors_at meant ys))
       ≡ code_order (monomial_code (factors_at meant l)) (monomial_code (factors_at meant r))

@@ -7,7 +7,7 @@ use Rattle.scev_arena.specs.Meaning.{meanings, factors_at, terms_at}
 use Rattle.scev_arena.specs.Standing.{AreAtoms, AreOverAtoms}
 use Rattle.scev_forms.specs.Polynomials.{terms_multiple}
 use Rattle.scev_polys.specs.Polynomials.{IsPolynomial}
-use Rattle.scev_polys.proofs.Rows.{multiple_canonical}
+use Rattle.scev_forms.proofs.Polynomials.{terms_multiple_canonical}
 use Rattle.scev_polys.proofs.Turns.{row_goes_on, row_ends}
 use Rattle.scev_polys.proofs.products.row.Goals as goal
 use Rattle.scev_polys.proofs.products.row.Goals.{After-from_vec}
@@ -61,7 +61,7 @@ returns-clause-polynomial c =
     let meant = meanings c.args.arena.now in record {
       over = subst (AreOverAtoms c.args.arena.now c.args.w.bits) (sym c.from_vec.ensures) c.loop-t.invariant.over;
       canonical = subst (AreCanonicalTerms c.args.w.bits) (sym (whole_row c)) (
-          multiple_canonical c.args.w.bits (factors_at meant c.args.s.now.ids) c.args.s.now.coefficient
+          terms_multiple_canonical c.args.w.bits (factors_at meant c.args.s.now.ids) c.args.s.now.coefficient
           (terms_at meant c.args.right.now) c.requires.left.canonical.1 c.requires.right.canonical
           );
     }

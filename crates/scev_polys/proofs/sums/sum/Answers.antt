@@ -6,7 +6,7 @@ use Rattle.scev_arena.specs.Meaning.{meanings, terms_at}
 use Rattle.scev_arena.specs.Standing.{AreOverAtoms}
 use Rattle.scev_forms.specs.Polynomials.{terms_sum}
 use Rattle.scev_polys.specs.Polynomials.{term_or_none}
-use Rattle.scev_polys.proofs.Merges.{sum_canonical}
+use Rattle.scev_forms.proofs.Polynomials.{terms_sum_canonical}
 use Rattle.scev_polys.proofs.Turns.{IsMerging, IsLower, left_taken, right_taken, both_taken, merging_ends}
 use Rattle.scev_polys.proofs.sums.sum.Goals as goal
 use Rattle.scev_polys.proofs.sums.sum.Goals.{in_default, in_default-2, After-from_vec}
@@ -96,7 +96,7 @@ returns-clause-polynomial c =
     let meant = meanings c.args.arena.now in record {
       over = (ended c).0;
       canonical = subst (AreCanonicalTerms c.args.w.bits) (sym (ended c).1) (
-          sum_canonical c.args.w.bits (terms_at meant c.args.left.now) (terms_at meant c.args.right.now)
+          terms_sum_canonical c.args.w.bits (terms_at meant c.args.left.now) (terms_at meant c.args.right.now)
           c.requires.left.canonical c.requires.right.canonical
           );
     }

@@ -3,7 +3,7 @@ use Rattle.std.proofs.lemmas.Bool.{or_left, lt-ltb, le-ltb}
 use Rattle.scev_base.specs.declared.limits.TheConstants.{MONOMIALS}
 use Rattle.scev_arena.specs.Meaning.{meanings, terms_at}
 use Rattle.scev_arena.specs.Limits.{has_long_monomial}
-use Rattle.scev_polys.proofs.AtPlaces.{as_many_terms}
+use Rattle.scev_arena.proofs.NodesMeasured.{as_many_terms}
 use Rattle.scev_polys.proofs.wide.are_wide.Goals as goal
 
 pub returns-then-terms-gt-MONOMIALS : goal.returns-then-terms-gt-MONOMIALS

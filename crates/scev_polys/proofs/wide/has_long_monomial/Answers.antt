@@ -4,7 +4,7 @@ use Rattle.scev_base.specs.declared.limits.TheConstants.{FACTORS}
 use Rattle.poly_terms.proofs.ProductLemmas.{drop_at}
 use Rattle.scev_arena.specs.Meaning.{terms_at}
 use Rattle.scev_arena.specs.Limits.{has_long_monomial}
-use Rattle.scev_polys.proofs.AtPlaces.{as_many_factors}
+use Rattle.scev_arena.proofs.NodesMeasured.{as_many_factors}
 use Rattle.scev_polys.proofs.wide.has_long_monomial.Goals as goal
 
 pub loop-term-preserved : goal.loop-term-preserved

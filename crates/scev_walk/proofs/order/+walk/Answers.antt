@@ -5,14 +5,15 @@ use Rattle.scev_tree.specs.Tree.{parts_of}
 use Rattle.scev_tree.specs.Order.{count_parts, count_factors, parts_code, factors_code}
 use Rattle.scev_arena.specs.Meaning.{meanings, tree_of, factors_at, terms_at}
 use Rattle.scev_arena.specs.Standing.{AreAtoms}
+use Rattle.scev_arena.proofs.NodesMeasured.{as_many_parts, as_many_terms, as_many_factors}
 use Rattle.scev_walk.specs.Reading.{AreBelow}
 use Rattle.scev_walk.proofs.Among.{tree_among, atom_among, term_among, ids_of}
 use Rattle.scev_walk.proofs.Below.{below_among, over_below_among}
 use Rattle.scev_walk.proofs.CodeOrder.{goes_on, ends_here}
 use Rattle.scev_walk.proofs.TreeCodes.{count_decides, counts_decide, behind_count, monomials_decide}
 use Rattle.scev_walk.proofs.TreeCodes.{coefficients_decide}
-use Rattle.scev_walk.proofs.Walking.{one_tree_there, one_atom_there, count_of_parts, count_of_terms, count_of_factors}
-use Rattle.scev_walk.proofs.Walking.{factors_from, monomials_from, parts_from, same_monomials}
+use Rattle.scev_walk.proofs.Walking.{one_tree_there, one_atom_there, factors_from, monomials_from, parts_from}
+use Rattle.scev_walk.proofs.Walking.{same_monomials}
 use Rattle.scev_walk.proofs.order.+walk.Goals as goal
 
 -- the place that is looked at
@@ -33,8 +34,8 @@ pub polynomials-returns-in_default : goal.polynomials-returns-in_default
 polynomials-returns-in_default t c w v =
     let meant = meanings c.args.arena.now in
     counts_decide w v (length c.args.left.now) (length c.args.right.now) (terms_at meant c.args.left.now)
-    (terms_at meant c.args.right.now) c.cmp.result (count_of_terms meant c.args.left.now)
-    (count_of_terms meant c.args.right.now) c.cmp.ensures c.in_default.not-Equal
+    (terms_at meant c.args.right.now) c.cmp.result (as_many_terms meant c.args.left.now)
+    (as_many_terms meant c.args.right.now) c.cmp.ensures c.in_default.not-Equal
 
 pub polynomials-returns-in_default-each_monomial : goal.polynomials-returns-in_default-each_monomial
 polynomials-returns-in_default-each_monomial t c w v =
@@ -42,7 +43,7 @@ polynomials-returns-in_default-each_monomial t c w v =
     let long : length c.args.left.now ≡ length c.args.right.now =
     ranked (length c.args.left.now) (length c.args.right.now) Equal c.in-Equal.ensures in
     monomials_decide w v (terms_at meant c.args.left.now) (terms_at meant c.args.right.now) c.each_monomial.result
-    (count_of_terms meant c.args.left.now ∙ long ∙ sym (count_of_terms meant c.args.right.now))
+    (as_many_terms meant c.args.left.now ∙ long ∙ sym (as_many_terms meant c.args.right.now))
     c.each_monomial.ensures c.in_default-each_monomial.not-Equal
 
 pub polynomials-returns-in-Equal-each_monomial : goal.polynomials-returns-in-Equal-each_monomial
@@ -52,7 +53,7 @@ polynomials-returns-in-Equal-each_monomial t c w v =
     ranked (length c.args.left.now) (length c.args.right.now) Equal c.in-Equal.ensures in
     coefficients_decide w v (terms_at meant c.args.left.now) (terms_at meant c.args.right.now)
     c.each_coefficient.result
-    (count_of_terms meant c.args.left.now ∙ long ∙ sym (count_of_terms meant c.args.right.now))
+    (as_many_terms meant c.args.left.now ∙ long ∙ sym (as_many_terms meant c.args.right.now))
     c.in-Equal-each_monomial.ensures (c.each_coefficient.ensures meant)
 
 pub each_monomial-monomials-requires : goal.each_monomial-monomials-requires
@@ -124,7 +125,7 @@ monomials-returns-in_default t c =
     count_decides (length c.args.left.now) (length c.args.right.now)
     (count_factors (factors_at meant c.args.left.now)) (count_factors (factors_at meant c.args.right.now))
     (factors_code (factors_at meant c.args.left.now)) (factors_code (factors_at meant c.args.right.now)) c.cmp.result
-    (count_of_factors meant c.args.left.now) (count_of_factors meant c.args.right.now) c.cmp.ensures
+    (as_many_factors meant c.args.left.now) (as_many_factors meant c.args.right.now) c.cmp.ensures
     c.in_default.not-Equal
 
 pub monomials-returns-in-Equal : goal.monomials-returns-in-Equal
@@ -134,7 +135,7 @@ monomials-returns-in-Equal t c =
     (count_factors (factors_at meant c.args.left.now)) (count_factors (factors_at meant c.args.right.now))
     (factors_code (factors_at meant c.args.left.now)) (factors_code (factors_at meant c.args.right.now))
     c.each_factor.result
-    (count_of_factors meant c.args.left.now) (count_of_factors meant c.args.right.now) c.in-Equal.ensures
+    (as_many_factors meant c.args.left.now) (as_many_factors meant c.args.right.now) c.in-Equal.ensures
     c.each_factor.ensures
 
 pub each_factor-atoms-requires : goal.each_factor-atoms-requires
@@ -184,7 +185,7 @@ compare_parts-returns-in_default t c =
     count_decides (length c.args.left.now) (length c.args.right.now)
     (count_parts (parts c.args.left.now)) (count_parts (parts c.args.right.now))
     (parts_code (parts c.args.left.now)) (parts_code (parts c.args.right.now)) c.cmp.result
-    (count_of_parts nodes c.args.left.now) (count_of_parts nodes c.args.right.now) c.cmp.ensures
+    (as_many_parts nodes c.args.left.now) (as_many_parts nodes c.args.right.now) c.cmp.ensures
     c.in_default.not-Equal
 
 pub compare_parts-returns-in-Equal : goal.compare_parts-returns-in-Equal
@@ -194,7 +195,7 @@ compare_parts-returns-in-Equal t c =
     behind_count (length c.args.left.now) (length c.args.right.now)
     (count_parts (parts c.args.left.now)) (count_parts (parts c.args.right.now))
     (parts_code (parts c.args.left.now)) (parts_code (parts c.args.right.now)) c.each_part.result
-    (count_of_parts nodes c.args.left.now) (count_of_parts nodes c.args.right.now) c.in-Equal.ensures
+    (as_many_parts nodes c.args.left.now) (as_many_parts nodes c.args.right.now) c.in-Equal.ensures
     c.each_part.ensures
 
 pub each_part-trees-requires : goal.each_part-trees-requires
