@@ -1,5 +1,5 @@
 -- Extensions of expressions, as they are asked for.
-use Rattle.std.specs.Prelude.{◌≡◌, ℕ, ◌×◌, Bool, IsTrue, List, Option, Some, None}
+use Rattle.std.specs.Prelude.{◌≡◌, ℕ, Bool, IsTrue, List, Option, Some, None}
 use Rattle.scev_base.specs.declared.ids.ExprId.{ExprId}
 use Rattle.scev_base.specs.declared.ids.LoopId.{LoopId}
 use Rattle.scev_tree.specs.declared.kind.Kind.{Kind}

@@ -1,5 +1,5 @@
 -- Recurrences of two parts that don't wrap.
-use Rattle.std.specs.Prelude.{◌≡◌, ⊥, ℕ, ◌+◌, ◌*◌, ◌^◌, ◌-◌, ◌<◌, ◌×◌, Option, Some, ℤ, pos, neg_ℤ, ◌+ℤ◌, ◌*ℤ◌}
+use Rattle.std.specs.Prelude.{◌≡◌, ℕ, ◌+◌, ◌*◌, ◌^◌, ◌-◌, ◌<◌, Option, Some, ℤ, pos, neg_ℤ, ◌+ℤ◌, ◌*ℤ◌}
 use Rattle.std.specs.Prelude.{◌≤ℤ◌, ◌<ℤ◌}
 use Rattle.scev_base.specs.Residue.{reading}
 use Rattle.scev_base.specs.declared.ids.LoopId.{LoopId}
