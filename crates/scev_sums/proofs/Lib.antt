@@ -15,3 +15,4 @@ pub mod Recurrences
 pub mod Gathered
 pub mod Groups
 pub mod Beside
+pub mod Making

@@ -87,6 +87,24 @@ pub fn make_rec(
         (forms.recurrence_of w.bits l.0 (trees_at arena.old parts.now)) result }
     ensures value { IfOk result (HasValue arena.new (iterated_parts arena.old w.bits l.0 parts.now)) }
 {
+    // An arena tells with its length that its trees are canonical.
+    let _ = arena.len();
+    rec_of(alloc, arena, w, l, parts)
+}
+
+/// The recurrence, unless it is above a limit.
+fn rec_of(
+    alloc: Global,
+    arena: &mut Arena,
+    w: Width,
+    l: LoopId,
+    parts: &[ExprId],
+) -> Result<ExprId, FoldError>
+    requires { AreTreesOfAt arena.old w.bits parts.now }
+    ensures grows { GoesOn arena.old arena.new }
+    ensures tree { Tells (IsAt arena.new w.bits)
+        (forms.recurrence_of w.bits l.0 (trees_at arena.old parts.now)) result }
+{
     let parts = trimmed(arena, w, Vec::from_slice(alloc, parts)?);
     let id = recurrence(alloc, arena, w, l, &parts)?;
     tested(arena, id)?;

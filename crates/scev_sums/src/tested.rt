@@ -102,12 +102,7 @@ pub fn made(
 }
 
 /// The place of a constant: the number modulo 2^w. The arena only goes on.
-pub fn constant(
-    alloc: Global,
-    arena: &mut Arena,
-    w: Width,
-    n: u64,
-) -> Result<ExprId, AllocError>
+pub fn constant(alloc: Global, arena: &mut Arena, w: Width, n: u64) -> Result<ExprId, AllocError>
     ensures grows { GoesOn arena.old arena.new }
     ensures tree { IfOk result (λ id. IsAt arena.new w.bits id (tree.constant w.bits n)) }
 {

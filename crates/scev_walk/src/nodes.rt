@@ -4,7 +4,7 @@ ghost use Rattle.std.specs.Prelude.{◌≡◌, map};
 ghost use Rattle.scev_tree.specs.Tree.{polynomial, atom, parts_of, width_of};
 ghost use Rattle.scev_tree.specs.Canonical.{HasParts, AreCanonicalTerms};
 ghost use Rattle.scev_arena.specs.Meaning.{meanings, tree_of, atom_of, terms_at};
-ghost use Rattle.scev_arena.specs.Standing.{IsTreeAt, IsAtomAt, AreTrees, AreOverAtoms};
+ghost use Rattle.scev_arena.specs.Standing.{IsTreeAt, IsAtomAt, AreTrees, AreOverAtoms, IsArena};
 ghost use Rattle.scev_walk.specs.Reading.{IsSomeAtomAt, AreBelow, AreOverBelow};
 
 use poly_terms::Term;
@@ -29,8 +29,10 @@ pub fn tree_at(arena: &Arena, id: ExprId) -> (Width, &[Term])
 /// The width of the tree at a place.
 pub fn width(arena: &Arena, id: ExprId) -> Width
     requires { IsTreeAt arena.now id }
-    ensures { result.bits ≡ width_of (tree_of arena.now id) }
+    ensures width { result.bits ≡ width_of (tree_of arena.now id) }
+    ensures arena { IsArena arena.now }
 {
+    let _ = arena.len();
     tree_at(arena, id).0
 }
 
