@@ -1,6 +1,6 @@
 //! Extensions of expressions, without sign and with it.
 
-ghost use Rattle.std.specs.Prelude.{◌≡◌, ◌<◌, ◌≤◌, [], ◌∷◌, map, IfOk, IfSome, option_map, IsTrue};
+ghost use Rattle.std.specs.Prelude.{◌≡◌, ◌<◌, ◌≤◌, ◌^◌, [], ◌∷◌, map, IfOk, IfSome, option_map, IsTrue};
 ghost use Rattle.scev_tree.specs.Tree as tree;
 ghost use Rattle.scev_tree.specs.declared.kind.Kind.TheVariants as kind;
 ghost use Rattle.scev_arena.specs.Meaning.{tree_of};
@@ -194,5 +194,11 @@ fn extended_atom(
             return made(alloc, arena, kind, w, parts);
         }
     }
-    made(alloc, arena, how.kind(), w, Items::from_slice(alloc, &[id])?)
+    made(
+        alloc,
+        arena,
+        how.kind(),
+        w,
+        Items::from_slice(alloc, &[id])?,
+    )
 }

@@ -1,6 +1,6 @@
 //! The lowest bits of expressions. They go into coefficients, factors and the parts of recurrences.
 
-ghost use Rattle.std.specs.Prelude.{◌≡◌, ◌<◌, ◌≤◌, ◌%◌, ◌^◌, [], ◌∷◌, map, IfOk, option_map};
+ghost use Rattle.std.specs.Prelude.{◌≡◌, ℕ, ◌<◌, ◌≤◌, ◌%◌, ◌^◌, [], ◌∷◌, map, IfOk, option_map};
 ghost use Rattle.scev_tree.specs.Tree as tree;
 ghost use Rattle.scev_tree.specs.Canonical.{HasParts};
 ghost use Rattle.scev_arena.specs.Meaning.{meanings, terms_at, factors_at, tree_of, atom_of};
@@ -14,7 +14,7 @@ ghost use Rattle.scev_casts.specs.Steps.{monomial_cut};
 use poly_terms::Term;
 use scev_arena::Arena;
 use scev_base::{ExprId, LoopNest, Width, trunc};
-use scev_sums::{FoldError, constant, made, make_product, make_rec, make_sum, tree_of_atom};
+use scev_sums::{FoldError, constant, made, make_product, make_rec, make_sum, push, tree_of_atom};
 use scev_tree::Kind;
 use scev_walk::{atom_at, tree_at, width};
 use sqlite_items::Items;
@@ -63,11 +63,7 @@ fn truncated(
 }
 
 /// The width of a tree and its terms, in a list of their own.
-fn terms_of(
-    alloc: Global,
-    arena: &Arena,
-    id: ExprId,
-) -> Result<(Width, Items<Term>), AllocError>
+fn terms_of(alloc: Global, arena: &Arena, id: ExprId) -> Result<(Width, Items<Term>), AllocError>
     requires { IsTreeAt arena.now id }
     ensures tree { IfOk result (λ both.
         tree_of arena.now id ≡ tree.polynomial both.0.bits (terms_at (meanings arena.now) both.1)) }
@@ -198,7 +194,13 @@ fn truncated_atom(
         }
         _ => {
             let whole = tree_of_atom(alloc, arena, kind, from, parts)?;
-            made(alloc, arena, Kind::Trunc, w, Items::from_slice(alloc, &[whole])?)
+            made(
+                alloc,
+                arena,
+                Kind::Trunc,
+                w,
+                Items::from_slice(alloc, &[whole])?,
+            )
         }
     }
 }
@@ -250,7 +252,7 @@ fn truncated_parts(
     let mut cut = Vec::with_capacity(alloc, parts.len())?;
     for id in parts {
         let part = truncated(alloc, arena, nest, w, *id)?;
-        cut.push(part)?;
+        push(&mut cut, part)?;
     }
     Ok(cut)
 }

@@ -10,4 +10,5 @@ mod tested;
 
 pub use error::FoldError;
 pub use make::{make_product, make_rec, make_sum};
+pub use parts::push;
 pub use tested::{constant, made, tree_of_atom};

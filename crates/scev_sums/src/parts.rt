@@ -119,8 +119,8 @@ pub(crate) fn results_of(
     Ok(ids)
 }
 
-/// Adds a place to the end.
-pub(crate) fn push(places: &mut Vec<ExprId>, id: ExprId) -> Result<(), AllocError>
+/// Adds a place to the end. It fails only where no memory is found, and then nothing is added.
+pub fn push(places: &mut Vec<ExprId>, id: ExprId) -> Result<(), AllocError>
     ensures { OnOk result (places.new.items ≡ places.old.items ++ id ∷ []) }
 {
     Ok(places.push(id)?)
