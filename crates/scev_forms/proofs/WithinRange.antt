@@ -12,7 +12,7 @@ use Rattle.scev_tree.specs.declared.kind.Kind.TheVariants as kind
 use Rattle.scev_tree.specs.Tree.{Tree, Atom, atom, no_parts, part, width_of}
 use Rattle.scev_tree.specs.Canonical.{IsCanonical, IsCanonicalAtom}
 use Rattle.scev_tree.specs.Value.{sum, tree_value}
-use Rattle.scev_tree.proofs.AffineValue.{iterated_alone, first_turn, next_turn}
+use Rattle.scev_tree.proofs.AffineValue.{first_turn, next_turn}
 use Rattle.scev_forms.specs.Outcome.{Done, next}
 use Rattle.scev_forms.specs.Trees.{IsTreeOf}
 use Rattle.scev_forms.specs.Sums.{recurrence_of}
@@ -28,6 +28,12 @@ use Rattle.scev_forms.proofs.Truncations.{next_done}
 
 -- ---- numbers
 
+-- a step with nothing behind it stays
+step_stays : (w t : ℕ) (x : Option ℕ) → iterated (sum w) t x [] ≡ x
+unfolding iterated
+step_stays w zero x = refl
+step_stays w (suc t) x = refl
+
 -- two parts at a turn
 numbers_at : (w t a b : ℕ)
     → a < 2 ^ w
@@ -35,7 +41,7 @@ numbers_at : (w t a b : ℕ)
 unfolding iterated
 numbers_at w zero a b below = ap (λ (n : ℕ). Some n) (sym (first_turn a b (2 ^ w) below))
 numbers_at w (suc t) a b below =
-    rw (numbers_at w t a b below, iterated_alone (sum w) t (Some b)) (ap (λ (n : ℕ). Some n) (next_turn a b t (2 ^ w)))
+    rw (numbers_at w t a b below, step_stays w t (Some b)) (ap (λ (n : ℕ). Some n) (next_turn a b t (2 ^ w)))
 
 -- the sum with none is none
 none_more : (w : ℕ) (x : Option ℕ) → sum w x None ≡ None
@@ -52,7 +58,7 @@ none_first w (suc t) y = rw (none_first w t y) refl
 none_step : (w t : ℕ) (x : Option ℕ) → iterated (sum w) (suc t) x (None ∷ []) ≡ None
 unfolding iterated
 none_step w t x =
-    ap (sum w (iterated (sum w) t x (None ∷ []))) (iterated_alone (sum w) t None)
+    ap (sum w (iterated (sum w) t x (None ∷ []))) (step_stays w t None)
     ∙ none_more w (iterated (sum w) t x (None ∷ []))
 
 -- Where there is a number at a further turn, both parts have one.
@@ -109,7 +115,7 @@ rec_done k w tree out (Some (atom (kind.Rec loop) v (part first (part step no_pa
     let start = next_done (extended k w first)
     (λ s. next (extended k w step) (λ m. recurrence_of w loop.0 (s ∷ m ∷ []))) out h in
     let more = next_done (extended k w step) (λ m. recurrence_of w loop.0 (start.0 ∷ m ∷ [])) out start.2 in
-    inr (tt, record {
+    inr (refl, record {
       loop = loop;
       width = v;
       first = first;
@@ -161,11 +167,11 @@ module _ (k : Kind) (w : ℕ) (tree out : Tree) (is : IsExtension k) (some : 0 <
       (a.0, (a.1.1.0, a.2.0), (a.1.1.1.0, a.2.1.0))
 
   -- an extended part is one of w bits
-  part_is_tree : (part extension : Tree)
-      → IsTreeOf (width_of tree) part
-      → extended k w part ≡ Done extension
+  part_is_tree : (one extension : Tree)
+      → IsTreeOf (width_of tree) one
+      → extended k w one ≡ Done extension
       → IsTreeOf w extension
-  part_is_tree part extension of h = extension_is_canonical k w part extension is (omega (arith, of.0)) of.1 h
+  part_is_tree one extension of h = extension_is_canonical k w one extension is (omega (arith, of.0)) of.1 h
 
   -- what comes out is canonical
   pub within_is_canonical : (no_wrap : Bool) → extended_when k w no_wrap tree ≡ Done out → IsTreeOf w out
@@ -183,14 +189,43 @@ module _ (k : Kind) (w : ℕ) (tree out : Tree) (is : IsExtension k) (some : 0 <
 
   module _ (held : ℕ → Option ℕ) (turns : ℕ → ℕ) where
     -- an extended part has the extended value
-    part_keeps : (part extension : Tree) (n : ℕ)
-        → IsTreeOf (width_of tree) part
-        → extended k w part ≡ Done extension
-        → tree_value held turns part ≡ Some n
+    part_keeps : (one extension : Tree) (n : ℕ)
+        → IsTreeOf (width_of tree) one
+        → extended k w one ≡ Done extension
+        → tree_value held turns one ≡ Some n
         → tree_value held turns extension ≡ Some (extended_number k (width_of tree) w n)
-    part_keeps part extension n of h value =
-        extension_value held turns k w part extension n is (omega (arith, of.0)) of.1 h value
+    part_keeps one extension n of h value =
+        extension_value held turns k w one extension n is (omega (arith, of.0)) of.1 h value
         ∙ ap (λ v. Some (extended_number k v w n)) of.0
+
+    -- the recurrence of the extended parts, at a further turn
+    further_turn : (r : IsRecExtended k w tree out) (t n : ℕ)
+        → turns r.loop.0 ≡ suc t
+        → StaysInRange k held turns tree
+        → iterated (sum (width_of tree)) (suc t) (tree_value held turns r.first) (tree_value held turns r.step ∷ [])
+        ≡ Some n
+        → (a : ℕ) × (b : ℕ) × (tree_value held turns r.first ≡ Some a) × (tree_value held turns r.step ≡ Some b)
+        → iterated (sum w) (suc t) (tree_value held turns r.start) (tree_value held turns r.more ∷ [])
+        ≡ Some (extended_number k (width_of tree) w n)
+    further_turn r t n turn stays h both =
+        let v = width_of tree in
+        let a = both.0 in
+        let b = both.1 in
+        let parts = parts_are_trees r in
+        let first = number_small held turns v r.first a parts.1 both.2 in
+        let step = number_small held turns v r.step b parts.2 both.3 in
+        let range = stays r.loop r.width r.first r.step a b r.only both.2 both.3 (λ none. absurd (omega arith)) in
+        let fits = subst (λ u. IsInRange k u a b (suc t)) parts.0
+        (subst (λ u. IsInRange k r.width a b u) turn range) in
+        let here = rw (both.2, both.3, numbers_at v (suc t) a b first) at h in
+        let there : (a + suc t * b) % 2 ^ v ≡ n = cc here in
+        let start = part_keeps r.first r.start a parts.1 r.starts both.2 in
+        let more = part_keeps r.step r.more b parts.2 r.steps both.3 in
+        rw
+        (start, more, numbers_at w (suc t) (extended_number k v w a) (extended_number k v w b)
+        (number_small held turns w r.start _ (part_is_tree r.first r.start parts.1 r.starts) start))
+        (ap (λ (m : ℕ). Some m)
+        (affine_extended k v w (suc t) a b is some most first step fits ∙ ap (extended_number k v w) there))
 
     -- the recurrence of the extended parts, at a turn
     turn_keeps : (r : IsRecExtended k w tree out) (t n : ℕ)
@@ -202,16 +237,32 @@ module _ (k : Kind) (w : ℕ) (tree out : Tree) (is : IsExtension k) (some : 0 <
     unfolding iterated
     turn_keeps r zero n turn stays h = part_keeps r.first r.start n (parts_are_trees r).1 r.starts h
     turn_keeps r (suc t) n turn stays h =
-        let v = width_of tree in
+        further_turn r t n turn stays h (both_numbers (width_of tree) t _ _ n h)
+
+    -- the recurrence that comes out
+    rec_keeps : (r : IsRecExtended k w tree out) (n : ℕ)
+        → StaysInRange k held turns tree
+        → tree_value held turns tree ≡ Some n
+        → tree_value held turns out ≡ Some (extended_number k (width_of tree) w n)
+    rec_keeps r n stays value =
         let parts = parts_are_trees r in
-        let both = both_numbers v t (tree_value held turns r.first) (tree_value held turns r.step) n h in
-        let a = both.0 in
-        let b = both.1 in
-        let first = number_small held turns v r.first a parts.1 both.2 in
-        let step = number_small held turns v r.step b parts.2 both.3 in
-        let range = stays r.loop r.width r.first r.step a b r.only both.2 both.3 (λ none. absurd (omega arith)) in
-        let fits = subst (λ u. IsInRange k u a b (suc t)) parts.0
-        (subst (λ u. IsInRange k r.width a b u) turn range) in
-        let here = rw (both.2, both.3) at h in
-        let there : (a + suc t * b) % 2 ^ v ≡ n = cc (numbers_at v (suc t) a b first) in
-        ?
+        let own = part r.first (part r.step no_parts) in
+        let its = sym (alone_value held turns tree (kind.Rec r.loop) r.width own tt canonical r.only) ∙ value in
+        recurrence_value w r.loop.0 r.start out (r.more ∷ []) held turns (extended_number k (width_of tree) w n)
+        (omega arith) (part_is_tree r.first r.start parts.1 r.starts)
+        (part_is_tree r.step r.more parts.2 r.steps, tt) r.done
+        (turn_keeps r (turns r.loop.0) n refl stays
+        (subst (λ u. iterated (sum u) (turns r.loop.0) (tree_value held turns r.first)
+        (tree_value held turns r.step ∷ []) ≡ Some n) parts.0 its))
+
+    -- what comes out has the extended value
+    pub within_value : (no_wrap : Bool) (n : ℕ)
+        → extended_when k w no_wrap tree ≡ Done out
+        → (IsTrue no_wrap → StaysInRange k held turns tree)
+        → tree_value held turns tree ≡ Some n
+        → tree_value held turns out ≡ Some (extended_number k (width_of tree) w n)
+    within_value no_wrap n h stays value =
+        elim (when_done k w no_wrap tree out h) [
+          | inl plain ↦ extension_value held turns k w tree out n is most canonical plain value
+          | inr known ↦ rec_keeps known.1 n (stays known.0) value
+        ]
