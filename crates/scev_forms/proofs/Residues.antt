@@ -1,6 +1,6 @@
 -- Residues of whole numbers: of a sum with a multiple, and of those in range of the signed reading.
-use Rattle.std.proofs.Common.{◌≡◌, ℕ, zero, suc, ◌+◌, ◌-◌, ◌*◌, ◌/◌, ◌%◌, ◌^◌, ◌<◌, ◌≤◌}
-use Rattle.std.proofs.Common.{ℤ, pos, negsuc, sym, ap, ◌∙◌, arith}
+use Rattle.std.proofs.Common.{◌≡◌, ℕ, suc, ◌+◌, ◌-◌, ◌*◌, ◌/◌, ◌%◌, ◌^◌, ◌<◌}
+use Rattle.std.proofs.Common.{ℤ, pos, negsuc, ap, ◌∙◌, arith}
 use Rattle.std.specs.Prelude.{◌+ℤ◌, ◌*ℤ◌}
 use Rattle.std.proofs.Math.Nat.{div-add-mod, mod-eq_of_lt, pow-suc}
 use Rattle.std.proofs.lemmas.Nat.{pow_pos, mod_below}
@@ -42,18 +42,22 @@ residue_affine w t x y =
     (mod_below plain m (pow_pos w))
     (omega (arith, first.2, often, product.0, product.1, whole, div-add-mod plain m))
 
+-- half of the modulus, twice
+half_twice : (w : ℕ) → 0 < w → 2 * 2 ^ (w - 1) ≡ 2 ^ w
+half_twice w some =
+    let more : suc (w - 1) ≡ w = omega arith in
+    omega (arith, pow-suc 2 (w - 1), ap (λ k. 2 ^ k) more)
+
 -- a whole number in range is the reading of its residue
 pub reading_residue : (w : ℕ) (z : ℤ) → 0 < w → IsSigned w z → reading w (residue w z) ≡ z
 reading_residue w (pos n) some fits =
     let half : n < 2 ^ (w - 1) = omega (arith, ints, fits.1) in
-    let whole : suc (w - 1) ≡ w = omega arith in
-    let double : 2 * 2 ^ (w - 1) ≡ 2 ^ w = omega (arith, pow-suc 2 (w - 1), ap (λ k. 2 ^ k) whole) in
+    let whole = half_twice w some in
     let same : n % 2 ^ w ≡ n = mod-eq_of_lt (omega arith) in
     ap (reading w) same ∙ reading_low w n (omega arith)
 reading_residue w (negsuc n) some fits =
     let half : n < 2 ^ (w - 1) = omega (arith, ints, fits.0) in
-    let whole : suc (w - 1) ≡ w = omega arith in
-    let double : 2 * 2 ^ (w - 1) ≡ 2 ^ w = omega (arith, pow-suc 2 (w - 1), ap (λ k. 2 ^ k) whole) in
+    let whole = half_twice w some in
     let same : n % 2 ^ w ≡ n = mod-eq_of_lt (omega arith) in
     ap (λ k. reading w (2 ^ w - (k + 1))) same
     ∙ reading_negative w (2 ^ w - (n + 1)) n (omega arith) (omega arith)

@@ -10,7 +10,7 @@ use Rattle.scev_base.specs.declared.ids.LoopId.{LoopId}
 use Rattle.scev_tree.specs.declared.kind.Kind.{Kind}
 use Rattle.scev_tree.specs.declared.kind.Kind.TheVariants as kind
 use Rattle.scev_tree.specs.Tree.{Tree, Atom, atom, no_parts, part, width_of}
-use Rattle.scev_tree.specs.Canonical.{IsCanonical, IsCanonicalAtom}
+use Rattle.scev_tree.specs.Canonical.{IsCanonical}
 use Rattle.scev_tree.specs.Value.{sum, tree_value}
 use Rattle.scev_tree.proofs.AffineValue.{first_turn, next_turn}
 use Rattle.scev_forms.specs.Outcome.{Done, next}
@@ -115,18 +115,21 @@ rec_done k w tree out (Some (atom (kind.Rec loop) v (part first (part step no_pa
     let start = next_done (extended k w first)
     (λ s. next (extended k w step) (λ m. recurrence_of w loop.0 (s ∷ m ∷ []))) out h in
     let more = next_done (extended k w step) (λ m. recurrence_of w loop.0 (start.0 ∷ m ∷ [])) out start.2 in
-    inr (refl, record {
-      loop = loop;
-      width = v;
-      first = first;
-      step = step;
-      start = start.0;
-      more = more.0;
-      only = one;
-      starts = start.1;
-      steps = more.1;
-      done = more.2;
-    })
+    inr (
+      refl,
+      record {
+        loop = loop;
+        width = v;
+        first = first;
+        step = step;
+        start = start.0;
+        more = more.0;
+        only = one;
+        starts = start.1;
+        steps = more.1;
+        done = more.2;
+      },
+    )
 rec_done k w tree out _ one h = inl h
 
 -- whether or not it is known that it doesn't wrap
@@ -221,9 +224,12 @@ module _ (k : Kind) (w : ℕ) (tree out : Tree) (is : IsExtension k) (some : 0 <
         let there : (a + suc t * b) % 2 ^ v ≡ n = cc here in
         let start = part_keeps r.first r.start a parts.1 r.starts both.2 in
         let more = part_keeps r.step r.more b parts.2 r.steps both.3 in
-        rw
-        (start, more, numbers_at w (suc t) (extended_number k v w a) (extended_number k v w b)
-        (number_small held turns w r.start _ (part_is_tree r.first r.start parts.1 r.starts) start))
+        rw (
+          start,
+          more,
+          numbers_at w (suc t) (extended_number k v w a) (extended_number k v w b)
+              (number_small held turns w r.start _ (part_is_tree r.first r.start parts.1 r.starts) start),
+        )
         (ap (λ (m : ℕ). Some m)
         (affine_extended k v w (suc t) a b is some most first step fits ∙ ap (extended_number k v w) there))
 
