@@ -12,7 +12,9 @@ pub mod SumsFormed
 pub mod Atoms
 pub mod Quotients
 pub mod Readings
+pub mod Residues
 pub mod Extensions
+pub mod WithinRange
 pub mod Choices
 pub mod Flat
 pub mod Minima
