@@ -6,10 +6,13 @@ ghost use Rattle.scev_fold.specs.Binomials.{IsBinomial};
 
 use scev_base::{Width, inverse_odd, trunc};
 
+/// The width of the numbers that are kept.
+const WORD: Width = Width { bits: 64 };
+
 /// C(n, k), as a power of 2 times an odd number, which is kept modulo 2^64.
 #[derive(Clone, Copy, Debug, PartialEq, Eq)]
 pub(crate) struct Binomial {
-    pub twos: u64,
+    pub twos: u128,
     pub odd: u64,
 }
 
@@ -32,8 +35,11 @@ impl Binomial {
         let up = times.trailing_zeros();
         let down = by.trailing_zeros();
         Binomial {
-            twos: self.twos + u64::from(up) - u64::from(down),
-            odd: self.odd.wrapping_mul(times >> up).wrapping_mul(inverse_odd(by >> down, Width::FULL)),
+            twos: self.twos + u128::from(up) - u128::from(down),
+            odd: self
+                .odd
+                .wrapping_mul(times >> up)
+                .wrapping_mul(inverse_odd(by >> down, WORD)),
         }
     }
 
@@ -44,7 +50,7 @@ impl Binomial {
     {
         let _ = (n, k);
         if self.twos < 64 {
-            trunc(self.odd << self.twos, w)
+            trunc(self.odd << self.twos as u32, w)
         } else {
             0
         }

@@ -19,7 +19,13 @@ use scev_walk::{atom_at, number_of, stands_in, tree_at};
 /// Whether something in the tree keeps it from having a value at the count: a register that is defined in the loop, or a
 /// recurrence of the loop that isn't of two parts with a number as the second, where the count is no number.
 #[cycle(search)]
-pub(crate) fn is_hindered(arena: &Arena, nest: &LoopNest, l: LoopId, count: ExprId, id: ExprId) -> bool
+pub(crate) fn is_hindered(
+    arena: &Arena,
+    nest: &LoopNest,
+    l: LoopId,
+    count: ExprId,
+    id: ExprId,
+) -> bool
     requires tree { IsTreeAt arena.now id }
     requires count { IsTreeAt arena.now count }
     ensures { result ≡ tree_hindered nest.now l.0 (tree_of arena.now count) (tree_of arena.now id) }
@@ -82,7 +88,8 @@ fn is_hindered_atom(arena: &Arena, nest: &LoopNest, l: LoopId, count: ExprId, id
     ensures { result ≡ atom_hindered nest.now l.0 (tree_of arena.now count) (atom_of arena.now id) }
 {
     let (kind, _, parts) = atom_at(arena, id);
-    hinders(arena, nest, l, count, kind, parts) || has_hindered_part(arena, nest, l, count, id.0, parts)
+    hinders(arena, nest, l, count, kind, parts)
+        || has_hindered_part(arena, nest, l, count, id.0, parts)
 }
 
 /// Whether it is so of one of the parts. They stand below a place.
