@@ -138,12 +138,12 @@ module _ (held : ℕ → Option ℕ) (turns : ℕ → ℕ) (k : Kind) (w : ℕ)
   -- ---- of two numbers, or none
 
   -- what is chosen is below
-  chosen_below : (x y : Option ℕ) → IsBelow w x → IsBelow w y → IsBelow w (lifted (chosen k w) x y)
+  pub chosen_below : (x y : Option ℕ) → IsBelow w x → IsBelow w y → IsBelow w (lifted (chosen k w) x y)
   chosen_below (Some a) (Some b) h h' = choice.closed a b h h'
   chosen_below _ _ h h' = tt
 
   -- in either grouping
-  chosen_grouped : (x y z : Option ℕ)
+  pub chosen_grouped : (x y z : Option ℕ)
       → IsBelow w x
       → IsBelow w y
       → IsBelow w z
