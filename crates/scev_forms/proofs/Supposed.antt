@@ -199,11 +199,11 @@ module _ (held : ℕ → Option ℕ) (turns : ℕ → ℕ) (P : Type 0) (w : ℕ
       → width_of tree ≤ w
       → IsTreeOf (width_of tree) tree
       → (P → Keeps x (tree_value held turns tree))
-      → ((n : ℕ) → y ≡ Some n → (m : ℕ) × (x ≡ Some m) × (extended_number k (width_of tree) w m ≡ n))
+      → (P → (n : ℕ) → y ≡ Some n → (m : ℕ) × (x ≡ Some m) × (extended_number k (width_of tree) w m ≡ n))
       → Gives (StandsIf y) (extended k w tree)
   extended_if k x y tree ext most is keeps number =
       formed_if y (extended k w tree)
       (λ out e. extension_is_canonical k w tree out ext most is.1 e)
       (λ out n p e value.
-      let its = number n value in
+      let its = number p n value in
       extension_value held turns k w tree out its.0 ext most is.1 e (keeps p its.0 its.1) ∙ ap Some its.2)
