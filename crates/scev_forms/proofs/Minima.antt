@@ -117,7 +117,7 @@ minimum_is_tree k w left right out is some l r h =
 -- ---- values
 
 -- the value of an atom of such a kind is that of its parts, joined
-kind_joined : (held : ℕ → Option ℕ) (turns : ℕ → ℕ) (k : Kind) (w : ℕ) (parts : Parts)
+pub kind_joined : (held : ℕ → Option ℕ) (turns : ℕ → ℕ) (k : Kind) (w : ℕ) (parts : Parts)
     → IsMinimum k
     → atom_value held turns (atom k w parts) ≡ joined (chosen k w) (values (parts_values held turns parts))
 kind_joined held turns kind.Smax w parts is = refl

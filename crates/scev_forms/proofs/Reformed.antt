@@ -1,5 +1,5 @@
 -- An atom that is formed anew, of trees that stand for the values of its parts, stands for its value.
-use Rattle.std.proofs.Common.{◌≡◌, ℕ, ◌%◌, ◌^◌, ◌<◌, ◌≤◌, List, [], ◌∷◌, Option, Some, None}
+use Rattle.std.proofs.Common.{◌≡◌, ℕ, ◌*◌, ◌%◌, ◌^◌, ◌<◌, ◌≤◌, List, [], ◌∷◌, Option, Some, None}
 use Rattle.std.proofs.Common.{refl, sym, ap, ◌∙◌, subst, arith}
 use Rattle.scev_base.specs.Residue.{residue, reading}
 use Rattle.rec_algebra.proofs.AlgebraLemmas.{Each}
@@ -12,15 +12,17 @@ use Rattle.scev_tree.specs.Value.{product, tree_value, values, parts_values, ato
 use Rattle.scev_tree.proofs.Arithmetic.{IsBelow}
 use Rattle.scev_tree.proofs.Values.{tree_below}
 use Rattle.scev_forms.specs.Outcome.{Outcome, Done}
-use Rattle.scev_forms.specs.Minima.{IsMinimum, chosen}
+use Rattle.scev_forms.specs.Sums.{recurrence_of}
+use Rattle.scev_forms.specs.Casts.{truncated, extended}
+use Rattle.scev_forms.specs.Quotients.{tree_quotient}
+use Rattle.scev_forms.specs.Minima.{IsMinimum}
 use Rattle.scev_forms.specs.Turns.{minimum_of_all, sequence_of_all, reformed}
 use Rattle.scev_forms.proofs.Outcomes.{Gives, gives_more}
-use Rattle.scev_forms.proofs.Kept.{Keeps, keeps_same}
 use Rattle.scev_forms.proofs.Atoms.{atom_is_tree, of_atom_value}
 use Rattle.scev_forms.proofs.CutNumbers.{both_numbers}
 use Rattle.scev_forms.proofs.TruncatedValues.{mapped_number}
 use Rattle.scev_forms.proofs.Minima.{kind_joined}
-use Rattle.scev_forms.proofs.Supposed.{StandsIf, AllStandIf, formed_kept_if, once_if, quotient_if, recurrence_if}
+use Rattle.scev_forms.proofs.Supposed.{StandsIf, AllStandIf, once_if, quotient_if, recurrence_if}
 use Rattle.scev_forms.proofs.Supposed.{truncated_if, extended_if}
 use Rattle.scev_forms.proofs.FoldedValues.{minimum_of_all_if, sequence_of_all_if}
 
@@ -101,19 +103,42 @@ module _ (held : ℕ → Option ℕ) (turns : ℕ → ℕ) (P : Type 0) where
         → StandForParts parts trees
         → ReformsTo k parts (reformed parents w k trees)
     unfolding reformed
-    reforms kind.Trunc (part first no_parts) (tree ∷ []) has h = ?
+    reforms kind.Trunc (part first no_parts) (tree ∷ []) has h =
+        as_value kind.Trunc (part first no_parts) (truncated parents w tree)
+        (truncated_if held turns P w some parents (tree_value held turns first) tree (omega (arith, has, h.0.0.0))
+        (refl, h.0.0.1) h.0.1)
     reforms kind.Trunc (part first no_parts) [] has h = absurd h
     reforms kind.Trunc (part first no_parts) (tree ∷ other ∷ trees) has h = absurd h.1
     reforms kind.Trunc _ trees has h = absurd has
-    reforms kind.Zext (part first no_parts) (tree ∷ []) has h = ?
+    reforms kind.Zext (part first no_parts) (tree ∷ []) has h =
+        let x = tree_value held turns first in
+        as_value kind.Zext (part first no_parts) (extended kind.Zext w tree)
+        (extended_if held turns P w kind.Zext x x tree tt (omega (arith, has, h.0.0.0)) (refl, h.0.0.1) h.0.1
+        (λ p n e. (n, e, refl)))
     reforms kind.Zext (part first no_parts) [] has h = absurd h
     reforms kind.Zext (part first no_parts) (tree ∷ other ∷ trees) has h = absurd h.1
     reforms kind.Zext _ trees has h = absurd has
-    reforms kind.Sext (part first no_parts) (tree ∷ []) has h = ?
+    reforms kind.Sext (part first no_parts) (tree ∷ []) has h =
+        let x = tree_value held turns first in
+        as_value kind.Sext (part first no_parts) (extended kind.Sext w tree)
+        (extended_if held turns P w kind.Sext x (atom_value held turns (atom kind.Sext w (part first no_parts))) tree tt
+        (omega (arith, has, h.0.0.0)) (refl, h.0.0.1) h.0.1
+        (λ p n e.
+        let number = mapped_number (λ m. residue w (reading (width_of first) m)) x n e in
+        (number.0, number.1, ap (λ v. residue w (reading v number.0)) h.0.0.0 ∙ number.2)))
     reforms kind.Sext (part first no_parts) [] has h = absurd h
     reforms kind.Sext (part first no_parts) (tree ∷ other ∷ trees) has h = absurd h.1
     reforms kind.Sext _ trees has h = absurd has
-    reforms kind.Udiv parts trees has h = ?
+    reforms kind.Udiv (part over (part by no_parts)) (left ∷ right ∷ []) has h =
+        let parts = part over (part by no_parts) in
+        let all = all_of_width w parts (left ∷ right ∷ []) has.1 h in
+        as_value kind.Udiv parts (tree_quotient w left right)
+        (quotient_if held turns P w some (tree_value held turns over) (tree_value held turns by) left right all.0
+        all.1.0)
+    reforms kind.Udiv (part over (part by no_parts)) [] has h = absurd h
+    reforms kind.Udiv (part over (part by no_parts)) (left ∷ []) has h = absurd h.1
+    reforms kind.Udiv (part over (part by no_parts)) (left ∷ right ∷ other ∷ trees) has h = absurd h.1.1
+    reforms kind.Udiv _ trees has h = absurd (let two = has.0 in omega arith)
     reforms kind.Smax parts trees has h =
         first_of_parts (λ ps ts. HaveWidth w ps → StandForParts ps ts
         → ReformsTo kind.Smax ps (reformed parents w kind.Smax ts)) parts trees has.0 h
@@ -130,8 +155,30 @@ module _ (held : ℕ → Option ℕ) (turns : ℕ → ℕ) (P : Type 0) where
         first_of_parts (λ ps ts. HaveWidth w ps → StandForParts ps ts
         → ReformsTo kind.Umin ps (reformed parents w kind.Umin ts)) parts trees has.0 h
         (λ first others tree more. minimum_reformed kind.Umin first others tree more tt) has.1 h
-    reforms kind.Seq parts trees has h = ?
-    reforms (kind.Rec loop) parts trees has h = ?
-    reforms (kind.Leaf register loop) no_parts [] has h = ?
+    reforms kind.Seq parts trees has h =
+        first_of_parts (λ ps ts. HaveWidth w ps → StandForParts ps ts
+        → ReformsTo kind.Seq ps (reformed parents w kind.Seq ts)) parts trees has.0 h
+        (λ first others tree more width both.
+        let all = all_of_width w (part first others) (tree ∷ more) width both in
+        as_value kind.Seq (part first others) (sequence_of_all w tree more)
+        (sequence_of_all_if held turns P w some (tree_value held turns first) (values (parts_values held turns others))
+        tree more all.0 all.1))
+        has.1 h
+    reforms (kind.Rec loop) parts trees has h =
+        first_of_parts (λ ps ts. HaveWidth w ps → StandForParts ps ts
+        → ReformsTo (kind.Rec loop) ps (reformed parents w (kind.Rec loop) ts)) parts trees has.0 h
+        (λ first others tree more width both.
+        as_value (kind.Rec loop) (part first others) (recurrence_of w loop.0 (tree ∷ more))
+        (recurrence_if held turns P w some loop.0 (values (parts_values held turns (part first others))) (tree ∷ more)
+        (all_of_width w (part first others) (tree ∷ more) width both)))
+        has.1 h
+    reforms (kind.Leaf register loop) no_parts [] has h =
+        let a = atom (kind.Leaf register loop) w no_parts in (
+          atom_is_tree w a some (refl, has, tt),
+          λ p n e.
+              let both = both_numbers (λ i j. i * j % 2 ^ w) (atom_value held turns a) (Some 1) n e in
+              let once : both.0 * both.1 ≡ both.0 = let one : 1 ≡ both.1 = cc in omega (arith, ap (λ k. both.0 * k) one) in
+              of_atom_value held turns w a both.0 both.2 ∙ ap Some (ap (λ k. k % 2 ^ w) (sym once) ∙ both.4),
+        )
     reforms (kind.Leaf register loop) no_parts (tree ∷ trees) has h = absurd h
     reforms (kind.Leaf register loop) (part first parts) trees has h = absurd cc
