@@ -98,6 +98,12 @@ module _ (held : ℕ → Option ℕ) (turns : ℕ → ℕ) (P : Type 0) where
         (minimum_of_all_if held turns P w some k is (tree_value held turns first) xs tree more below.0 below.1
         all.0 all.1))
 
+    -- the same of parts of its width
+    abbrev ReformedAs : Kind → Parts → List Tree → Type 0
+    ReformedAs k parts trees =
+        HaveWidth w parts → StandForParts parts trees → ReformsTo k parts (reformed parents w k trees)
+
+    -- an atom of w bits is formed anew
     pub reforms : (k : Kind) (parts : Parts) (trees : List Tree)
         → HasParts k w parts
         → StandForParts parts trees
@@ -140,24 +146,19 @@ module _ (held : ℕ → Option ℕ) (turns : ℕ → ℕ) (P : Type 0) where
     reforms kind.Udiv (part over (part by no_parts)) (left ∷ right ∷ other ∷ trees) has h = absurd h.1.1
     reforms kind.Udiv _ trees has h = absurd (let two = has.0 in omega arith)
     reforms kind.Smax parts trees has h =
-        first_of_parts (λ ps ts. HaveWidth w ps → StandForParts ps ts
-        → ReformsTo kind.Smax ps (reformed parents w kind.Smax ts)) parts trees has.0 h
+        first_of_parts (ReformedAs kind.Smax) parts trees has.0 h
         (λ first others tree more. minimum_reformed kind.Smax first others tree more tt) has.1 h
     reforms kind.Umax parts trees has h =
-        first_of_parts (λ ps ts. HaveWidth w ps → StandForParts ps ts
-        → ReformsTo kind.Umax ps (reformed parents w kind.Umax ts)) parts trees has.0 h
+        first_of_parts (ReformedAs kind.Umax) parts trees has.0 h
         (λ first others tree more. minimum_reformed kind.Umax first others tree more tt) has.1 h
     reforms kind.Smin parts trees has h =
-        first_of_parts (λ ps ts. HaveWidth w ps → StandForParts ps ts
-        → ReformsTo kind.Smin ps (reformed parents w kind.Smin ts)) parts trees has.0 h
+        first_of_parts (ReformedAs kind.Smin) parts trees has.0 h
         (λ first others tree more. minimum_reformed kind.Smin first others tree more tt) has.1 h
     reforms kind.Umin parts trees has h =
-        first_of_parts (λ ps ts. HaveWidth w ps → StandForParts ps ts
-        → ReformsTo kind.Umin ps (reformed parents w kind.Umin ts)) parts trees has.0 h
+        first_of_parts (ReformedAs kind.Umin) parts trees has.0 h
         (λ first others tree more. minimum_reformed kind.Umin first others tree more tt) has.1 h
     reforms kind.Seq parts trees has h =
-        first_of_parts (λ ps ts. HaveWidth w ps → StandForParts ps ts
-        → ReformsTo kind.Seq ps (reformed parents w kind.Seq ts)) parts trees has.0 h
+        first_of_parts (ReformedAs kind.Seq) parts trees has.0 h
         (λ first others tree more width both.
         let all = all_of_width w (part first others) (tree ∷ more) width both in
         as_value kind.Seq (part first others) (sequence_of_all w tree more)
@@ -165,8 +166,7 @@ module _ (held : ℕ → Option ℕ) (turns : ℕ → ℕ) (P : Type 0) where
         tree more all.0 all.1))
         has.1 h
     reforms (kind.Rec loop) parts trees has h =
-        first_of_parts (λ ps ts. HaveWidth w ps → StandForParts ps ts
-        → ReformsTo (kind.Rec loop) ps (reformed parents w (kind.Rec loop) ts)) parts trees has.0 h
+        first_of_parts (ReformedAs (kind.Rec loop)) parts trees has.0 h
         (λ first others tree more width both.
         as_value (kind.Rec loop) (part first others) (recurrence_of w loop.0 (tree ∷ more))
         (recurrence_if held turns P w some loop.0 (values (parts_values held turns (part first others))) (tree ∷ more)
