@@ -1,6 +1,6 @@
 -- Plans that are carried out over trees: their parts stand for the items of the plan.
 use Rattle.std.proofs.Common.{ℕ, zero, suc, ◌<◌, List, [], ◌∷◌, ◌++◌, map, get_or}
-use Rattle.std.proofs.Common.{Option, Some, None, ◌∙◌}
+use Rattle.std.proofs.Common.{Option, Some, ◌∙◌}
 use Rattle.std.proofs.lemmas.Bool.{cond_both}
 use Rattle.rec_algebra.specs.Plans.{Plan}
 use Rattle.rec_algebra.specs.declared.plan.PlanStep.{PlanStep}
@@ -8,7 +8,7 @@ use Rattle.rec_algebra.specs.declared.plan.PlanStep.TheVariants as step
 use Rattle.rec_algebra.specs.Plans.{step_item, place_items, carried}
 use Rattle.scev_tree.specs.Tree.{Tree, Terms}
 use Rattle.scev_tree.specs.Canonical.{AreCanonicalTerms}
-use Rattle.scev_tree.specs.Value.{sum, product, tree_value, terms_value}
+use Rattle.scev_tree.specs.Value.{sum, product, terms_value}
 use Rattle.scev_forms.specs.Outcome.{Outcome, Refused}
 use Rattle.scev_forms.specs.Polynomials.{terms_of, terms_sum, terms_product}
 use Rattle.scev_arena.specs.Limits.{are_wide}

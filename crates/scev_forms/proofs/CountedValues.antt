@@ -1,9 +1,9 @@
 -- The value of a recurrence at a count: the sum of its parts, each times a binomial coefficient, or its start and its
 -- step times the count.
-use Rattle.std.proofs.Common.{◌≡◌, ℕ, zero, suc, ◌+◌, ◌-◌, ◌*◌, ◌%◌, ◌^◌, ◌<◌, ◌≤◌, nat_lt, true, List, [], ◌∷◌}
+use Rattle.std.proofs.Common.{◌≡◌, ℕ, zero, suc, ◌+◌, ◌-◌, ◌*◌, ◌%◌, ◌^◌, ◌<◌, nat_lt, true, List, [], ◌∷◌}
 use Rattle.std.proofs.Common.{map, Option, Some, None, is_some, refl, sym, ap, ◌∙◌, subst, arith}
 use Rattle.std.proofs.lemmas.Bool.{cond_both, ltb-true, ltb-false}
-use Rattle.std.proofs.lemmas.Nat.{pow_pos, mul-mod_second}
+use Rattle.std.proofs.lemmas.Nat.{mul-mod_second}
 use Rattle.std.proofs.Math.Nat.{mod-eq_of_lt, mod-add-mod, add-mod-mod}
 use Rattle.scev_base.specs.Iterated.{iterated}
 use Rattle.binomial_eval.specs.Choose.{choose}
@@ -14,7 +14,7 @@ use Rattle.scev_tree.specs.declared.kind.Kind.TheVariants as kind
 use Rattle.scev_tree.specs.Tree.{Tree, Parts, no_parts, part, constant, width_of, trees_of}
 use Rattle.scev_tree.specs.Canonical.{IsCanonical}
 use Rattle.scev_tree.specs.Value.{sum, product, tree_value}
-use Rattle.scev_forms.specs.Outcome.{Outcome, Done, next}
+use Rattle.scev_forms.specs.Outcome.{Done}
 use Rattle.scev_forms.specs.Trees.{IsTreeOf, AreTreesOf}
 use Rattle.scev_forms.specs.Sums.{tree_sum, tree_product}
 use Rattle.scev_forms.specs.Atoms.{number_of}

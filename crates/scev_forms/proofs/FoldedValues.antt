@@ -1,16 +1,15 @@
 -- Minima of several trees, formed from the left, have the minimum of all values; so do sequential minima.
-use Rattle.std.proofs.Common.{◌≡◌, ℕ, ◌^◌, ◌<◌, List, [], ◌∷◌, Option, refl, sym, ap, ◌∙◌}
+use Rattle.std.proofs.Common.{◌≡◌, ℕ, ◌<◌, List, [], ◌∷◌, Option, refl, sym, ap, ◌∙◌}
 use Rattle.rec_algebra.proofs.AlgebraLemmas.{Each}
 use Rattle.scev_tree.specs.declared.kind.Kind.{Kind}
 use Rattle.scev_tree.specs.Tree.{Tree}
 use Rattle.scev_tree.specs.Value.{lifted, joined, least_in_sequence}
 use Rattle.scev_tree.proofs.Arithmetic.{IsBelow}
-use Rattle.scev_forms.specs.Outcome.{Outcome, next}
-use Rattle.scev_forms.specs.Minima.{IsMinimum, chosen, neutral, absorbing, tree_minimum, tree_sequence}
+use Rattle.scev_forms.specs.Minima.{IsMinimum, chosen, tree_minimum, tree_sequence}
 use Rattle.scev_forms.specs.Turns.{minimum_of_all, sequence_of_all}
 use Rattle.scev_forms.proofs.Outcomes.{Gives, gives_next}
-use Rattle.scev_forms.proofs.Kept.{Keeps, keeps_same}
-use Rattle.scev_forms.proofs.Choices.{IsChoice, kind_chooses}
+use Rattle.scev_forms.proofs.Kept.{keeps_same}
+use Rattle.scev_forms.proofs.Choices.{kind_chooses}
 use Rattle.scev_forms.proofs.Minima.{chosen_below, chosen_grouped}
 use Rattle.scev_forms.proofs.Sequences.{chain, chain_grouped, least_first}
 use Rattle.scev_forms.proofs.Supposed.{StandsIf, AllStandIf, formed_kept_if, minimum_if, sequence_if}

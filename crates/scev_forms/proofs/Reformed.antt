@@ -1,17 +1,17 @@
 -- An atom that is formed anew, of trees that stand for the values of its parts, stands for its value.
-use Rattle.std.proofs.Common.{◌≡◌, ℕ, ◌*◌, ◌%◌, ◌^◌, ◌<◌, ◌≤◌, List, [], ◌∷◌, Option, Some, None}
+use Rattle.std.proofs.Common.{◌≡◌, ℕ, ◌*◌, ◌%◌, ◌^◌, ◌<◌, ◌≤◌, List, [], ◌∷◌, Option, Some}
 use Rattle.std.proofs.Common.{refl, sym, ap, ◌∙◌, subst, arith}
 use Rattle.scev_base.specs.Residue.{residue, reading}
 use Rattle.rec_algebra.proofs.AlgebraLemmas.{Each}
 use Rattle.scev_tree.specs.declared.kind.Kind.{Kind}
 use Rattle.scev_tree.specs.declared.kind.Kind.TheVariants as kind
-use Rattle.scev_tree.specs.Tree.{Tree, Parts, atom, no_parts, part, of_atom, width_of, parts_of}
+use Rattle.scev_tree.specs.Tree.{Tree, Parts, atom, no_parts, part, width_of}
 use Rattle.scev_tree.specs.Order.{count_parts}
 use Rattle.scev_tree.specs.Canonical.{HaveWidth, HasParts}
 use Rattle.scev_tree.specs.Value.{product, tree_value, values, parts_values, atom_value}
 use Rattle.scev_tree.proofs.Arithmetic.{IsBelow}
 use Rattle.scev_tree.proofs.Values.{tree_below}
-use Rattle.scev_forms.specs.Outcome.{Outcome, Done}
+use Rattle.scev_forms.specs.Outcome.{Outcome}
 use Rattle.scev_forms.specs.Sums.{recurrence_of}
 use Rattle.scev_forms.specs.Casts.{truncated, extended}
 use Rattle.scev_forms.specs.Quotients.{tree_quotient}

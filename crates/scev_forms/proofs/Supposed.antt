@@ -1,10 +1,10 @@
 -- Trees that stand for a value where something is supposed: canonical in any case, and with that value if it holds.
-use Rattle.std.proofs.Common.{◌≡◌, ℕ, ◌%◌, ◌^◌, ◌<◌, ◌≤◌, zero, suc, List, [], ◌∷◌, map}
-use Rattle.std.proofs.Common.{Option, Some, None, refl, sym, ap, ◌∙◌, subst, arith}
+use Rattle.std.proofs.Common.{◌≡◌, ℕ, ◌%◌, ◌^◌, ◌<◌, ◌≤◌, zero, suc, List, [], ◌∷◌}
+use Rattle.std.proofs.Common.{Option, Some, None, refl, ap, ◌∙◌}
 use Rattle.std.specs.Option.{option_map}
 use Rattle.scev_tree.specs.declared.kind.Kind.{Kind}
 use Rattle.scev_tree.specs.Tree.{Tree, constant, width_of}
-use Rattle.scev_tree.specs.Value.{lifted, sum, product, quotient, least_in_sequence, tree_value}
+use Rattle.scev_tree.specs.Value.{lifted, sum, product, quotient, tree_value}
 use Rattle.scev_forms.specs.Trees.{IsTreeOf, AreTreesOf}
 use Rattle.scev_forms.specs.Outcome.{Outcome, Done, Refused}
 use Rattle.scev_forms.specs.Sums.{tree_sum, tree_product, recurrence_of}

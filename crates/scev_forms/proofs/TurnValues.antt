@@ -1,6 +1,6 @@
 -- The value of a tree at a turn of a loop, as a tree: it has the value of the tree when the loop is at that turn.
 use Rattle.std.proofs.Common.{◌≡◌, ℕ, zero, suc, ◌%◌, ◌^◌, ◌<◌, ◌==◌, Bool, true, false, ◌&&◌, not}
-use Rattle.std.proofs.Common.{List, [], ◌∷◌, map, Option, Some, None, refl, sym, ap, ◌∙◌, subst, arith}
+use Rattle.std.proofs.Common.{List, map, Option, Some, refl, sym, ap, ◌∙◌, subst, arith}
 use Rattle.std.proofs.lemmas.Bool.{cond_both, or_parts, eqb-true}
 use Rattle.std.proofs.lemmas.Nat.{pow_pos}
 use Rattle.std.proofs.Math.Nat.{mod-eq_of_lt}
@@ -15,12 +15,11 @@ use Rattle.scev_tree.specs.Canonical.{IsCanonicalAtom, AreCanonicalParts}
 use Rattle.scev_tree.specs.Value.{sum, product, tree_value, terms_value, factors_value, atom_value}
 use Rattle.scev_tree.proofs.Arithmetic.{IsBelow, sum_assoc, product_assoc, product_comm, factor_mod, one_times}
 use Rattle.scev_tree.proofs.Values.{factors_below, terms_below}
-use Rattle.scev_arena.specs.Limits.{is_in, is_in_terms, is_in_factors, is_in_atom, is_in_parts}
+use Rattle.scev_arena.specs.Limits.{is_in_terms, is_in_factors, is_in_atom, is_in_parts}
 use Rattle.scev_forms.specs.Outcome.{Outcome, Done, next}
-use Rattle.scev_forms.specs.Trees.{IsTreeOf, AreTreesOf}
 use Rattle.scev_forms.specs.Sums.{tree_sum, tree_product}
 use Rattle.scev_forms.specs.Atoms.{number_of}
-use Rattle.scev_forms.specs.Turns.{is_countable, hinders, is_hindered, counted, reformed, atom_by_parts, tree_at_turn}
+use Rattle.scev_forms.specs.Turns.{is_countable, hinders, is_hindered, counted, reformed, tree_at_turn}
 use Rattle.scev_forms.specs.Turns.{terms_at_turn, factors_at_turn, atom_at_turn, parts_at_turn}
 use Rattle.scev_forms.proofs.Outcomes.{Gives, gives_next, gives_more, given}
 use Rattle.scev_forms.proofs.Kept.{keeps_same, zero_plus}

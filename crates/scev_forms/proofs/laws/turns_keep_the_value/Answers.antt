@@ -1,4 +1,4 @@
-use Rattle.std.proofs.Common.{ℕ, Option, None}
+use Rattle.std.proofs.Common.{None}
 use Rattle.scev_forms.proofs.TurnValues.{turn_stands}
 use Rattle.scev_forms.proofs.laws.turns_keep_the_value.Goals as goal
 
