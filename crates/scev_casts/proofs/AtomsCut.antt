@@ -190,12 +190,12 @@ module _ (nodes : List Node) (id : ExprId) (k : Kind) (v : ℕ) (there : List Ex
         subst (λ u. AreTreesOfAt nodes u slice) (one_width v from _ h wide)
         (wide_parts nodes v slice (subst (AreTrees nodes) (sym same) trees) (parts_read has e same).1)
 
-    pub rec_some : {l : LoopId} {new : List Node} {ids deref : List ExprId} → k ≡ kind.Rec l
+    pub rec_some : {l : LoopId} (new : List Node) {ids deref : List ExprId} → k ≡ kind.Rec l
         → (trees : List Tree) × (truncated_parts parents w (parts_of (trees_at nodes slice)) ≡ Done trees)
         × AreAt new w ids trees
         → deref ≡ ids
         → 1 ≤ length deref
-    rec_some {l} {new} {ids} {deref} e told is_ids =
+    rec_some {l} new {ids} {deref} e told is_ids =
         let many = (parts_read has e same).0 in
         let counted = parts_counted parents w (parts_of (trees_at nodes slice)) told.0 told.1 in
         let out = ap length told.2.1 in
@@ -203,12 +203,12 @@ module _ (nodes : List Node) (id : ExprId) (k : Kind) (v : ℕ) (there : List Ex
         let read = ap length is_ids in
         omega (arith, many, counted, out, mapped, read)
 
-    pub rec_cut : {l : LoopId} {new : List Node} {ids deref : List ExprId} → k ≡ kind.Rec l
+    pub rec_cut : {l : LoopId} (new : List Node) {ids deref : List ExprId} → k ≡ kind.Rec l
         → (trees : List Tree) × (truncated_parts parents w (parts_of (trees_at nodes slice)) ≡ Done trees)
         × AreAt new w ids trees
         → deref ≡ ids
         → recurrence_of w l.0 (trees_at new deref) ≡ truncated_atom parents w (atom_of nodes id)
-    rec_cut {l} {new} e told is_ids =
+    rec_cut {l} new e told is_ids =
         ap (λ l'. recurrence_of w l.0 (trees_at new l')) is_ids ∙ ap (recurrence_of w l.0) told.2.1
         ∙ led_on told.0 (rec_leads e) told.1
 

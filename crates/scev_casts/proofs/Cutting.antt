@@ -1,6 +1,7 @@
 -- How terms, factors and parts are cut one after another, over the places of an arena.
-use Rattle.std.proofs.Common.{◌≡◌, ℕ, zero, suc, ◌%◌, ◌^◌, ◌==◌, Bool, true, false, cond, List, [], ◌∷◌, ◌++◌, map, Option}
+use Rattle.std.proofs.Common.{◌≡◌, ℕ, ◌%◌, ◌^◌, ◌==◌, Bool, true, false, cond, List, [], ◌∷◌, ◌++◌, map, Option}
 use Rattle.std.proofs.Common.{Result, refl, sym, ap, ◌∙◌, subst, append_assoc}
+use Rattle.std.proofs.lemmas.Bool.{ne_eqb}
 use Rattle.std.proofs.lemmas.List.{append-nil, map-append}
 use Rattle.scev_base.specs.declared.ids.ExprId.{ExprId}
 use Rattle.scev_tree.specs.Tree.{Tree, Terms, Factors, Parts, polynomial, term, part, constant, parts_of, width_of}
@@ -88,34 +89,33 @@ module _ (parents : List (Option ℕ)) (w : ℕ) where
   one_part tree parts before = before_next (truncated parents w tree) (truncated_parts parents w parts) before
 
 -- a sum of trees of w bits, as it is told of the width of the first one
-pub sum_told : (parents : List (Option ℕ)) {w v : ℕ} {new : List Node} {left right : Tree} {whole : Outcome Tree}
+pub sum_told : (parents : List (Option ℕ)) {w v : ℕ} (new : List Node) (left right : Tree) {whole : Outcome Tree}
     (result : Result ExprId FoldError)
     → v ≡ w
     → tree_sum parents w left right ≡ whole
     → Tells (IsAt new v) (tree_sum parents v left right) result
     → Tells (IsAt new w) whole result
-sum_told parents {w} {new = new} {left = left} {right = right} {whole = whole} result e same told =
+sum_told parents {w} new left right {whole} result e same told =
     told_same (IsAt new w) (tree_sum parents w left right) whole result same
     (subst (λ u. Tells (IsAt new u) (tree_sum parents u left right) result) e told)
 
-pub product_told : (parents : List (Option ℕ)) {w v : ℕ} {new : List Node} {left right : Tree}
+pub product_told : (parents : List (Option ℕ)) {w v : ℕ} (new : List Node) (left right : Tree)
     (result : Result ExprId FoldError)
     → v ≡ w
     → Tells (IsAt new v) (tree_product parents v left right) result
     → Tells (IsAt new w) (tree_product parents w left right) result
-product_told parents {new = new} {left = left} {right = right} result e told =
+product_told parents new left right result e told =
     subst (λ u. Tells (IsAt new u) (tree_product parents u left right) result) e told
 
 -- ---- one monomial
 
 -- a coefficient that doesn't become 0
 some_number : {n m : ℕ} → n ≡ m → (n ≡ 0 → ⊥) → (m == 0) ≡ false
-some_number {m = zero} e some = absurd (some e)
-some_number {m = suc m} e some = refl
+some_number {m = m} e some = ne_eqb m 0 (λ none. some (e ∙ none))
 
 -- the product of a monomial leads on to the sum with it
-pub product_leads : (parents : List (Option ℕ)) (from w n : ℕ) {r : ℕ} {old middle : List Node} {ids slice : List ExprId}
-    {start : ExprId} (sum : Tree)
+pub product_leads : (parents : List (Option ℕ)) (from w n : ℕ) {r : ℕ} (old middle : List Node) {ids slice : List ExprId}
+    (start : ExprId) (sum : Tree)
     → GoesOn old middle
     → AreAtoms old from ids
     → slice ≡ ids
@@ -124,8 +124,7 @@ pub product_leads : (parents : List (Option ℕ)) (from w n : ℕ) {r : ℕ} {ol
     → IsAt middle w start (constant w n)
     → LeadsOn (truncated_factors parents w (factors_at (meanings middle) slice) (tree_of middle start))
     (tree_sum parents w sum) (monomial_cut parents w (factors_at (meanings old) ids) n sum)
-product_leads parents from w n {old = old} {middle = middle} {ids = ids} {slice = slice} {start = start} sum grows atoms is
-    value some at = record {
+product_leads parents from w n old middle {ids} {slice} start sum grows atoms is value some at = record {
       leads = ap (λ l. next (truncated_factors parents w (factors_at (meanings middle) l) (tree_of middle start))
           (tree_sum parents w sum)) is
           ∙ ap (λ tree. next (truncated_factors parents w (factors_at (meanings middle) ids) tree)
@@ -216,7 +215,7 @@ module _ (parents : List (Option ℕ)) (w : ℕ) (ids : List ExprId) {whole : Ou
                   ∙ cutting.same;
             }
 
-        module _ {middle : List Node} (grows : GoesOn old middle) {factor : ExprId} (told : (tree : Tree)
+        module _ {middle : List Node} (grows : GoesOn old middle) (factor : ExprId) (told : (tree : Tree)
             × (truncated_atom parents w (atom_of old id) ≡ Done tree) × IsAt middle w factor tree) where
           -- and so does the product with it
           pub times_leads : LeadsOn (tree_product parents w (tree_of middle product) (tree_of middle factor))
