@@ -1,5 +1,5 @@
 -- How atoms are cut, by their kinds.
-use Rattle.std.proofs.Common.{◌≡◌, ℕ, zero, suc, ◌≤◌, List, [], ◌∷◌, length, get_or, Option, refl, sym, ap, ◌∙◌, subst}
+use Rattle.std.proofs.Common.{◌≡◌, ℕ, zero, suc, ◌<◌, ◌≤◌, List, [], ◌∷◌, length, get_or, Option, refl, sym, ap, ◌∙◌, subst}
 use Rattle.std.proofs.Common.{arith, Some, None}
 use Rattle.std.proofs.lemmas.List.{length-map}
 use Rattle.scev_base.specs.declared.ids.ExprId.{ExprId}
@@ -12,13 +12,16 @@ use Rattle.scev_tree.specs.Canonical.{HasParts, HaveWidth}
 use Rattle.scev_arena.specs.declared.node.Node.{Node}
 use Rattle.scev_arena.specs.declared.node.Node.TheVariants as node
 use Rattle.scev_arena.specs.Meaning.{tree_of, atom_of}
-use Rattle.scev_arena.specs.Standing.{HoldsAtom, IsAtomAt, AreTrees}
+use Rattle.scev_arena.specs.Standing.{HoldsAtom, IsTreeAt, IsAtomAt, AreTrees}
 use Rattle.scev_forms.specs.Outcome.{Outcome, Done, next}
 use Rattle.scev_forms.specs.Sums.{recurrence_of}
 use Rattle.scev_forms.specs.Atoms.{made}
 use Rattle.scev_forms.specs.Casts.{of_extended, truncated, truncated_terms, truncated_factors, truncated_atom}
 use Rattle.scev_forms.specs.Casts.{truncated_parts}
 use Rattle.scev_forms.proofs.Truncations.{parts_done}
+use Rattle.scev_walk.specs.Reading.{AreBelow}
+use Rattle.scev_walk.proofs.Among.{tree_among}
+use Rattle.scev_walk.proofs.Below.{below_among}
 use Rattle.scev_walk.proofs.Lists.{item_alone}
 use Rattle.scev_sums.specs.Answers.{AreAt, AreTreesOfAt, trees_at}
 use Rattle.scev_sums.proofs.Held.{as_many_parts}
@@ -39,6 +42,21 @@ wide_parts : (nodes : List Node) (w : ℕ) (ids : List ExprId)
     → AreTreesOfAt nodes w ids
 wide_parts nodes w [] h wide = tt
 wide_parts nodes w (id ∷ ids) h wide = ((h.0, wide.0), wide_parts nodes w ids h.1 wide.1)
+
+-- the only one of some places
+module _ (n : ℕ) (nodes : List Node) {there slice : List ExprId} (d : ExprId) (same : slice ≡ there)
+    (one : length slice ≡ 1) where
+  pub only_tree : AreTrees nodes there → IsTreeAt nodes (get_or slice 0 d)
+  only_tree trees =
+      tree_among nodes slice 0 d (get_or slice 0 d) (subst (AreTrees nodes) (sym same) trees) (omega (arith, one)) refl
+
+  pub only_below : AreBelow n there → (get_or slice 0 d).0 < n
+  only_below below =
+      below_among n slice 0 d (get_or slice 0 d) (subst (AreBelow n) (sym same) below) (omega (arith, one)) refl
+
+pub only_item : {parts slice : List ExprId} (d : ExprId) → slice ≡ parts → length slice ≡ 1
+    → parts ≡ get_or slice 0 d ∷ []
+only_item {slice = slice} d is one = sym is ∙ item_alone slice d (omega (arith, one)) (omega (arith, one))
 
 -- as many parts come out
 parts_counted : (parents : List (Option ℕ)) (w : ℕ) (parts : Parts) (trees : List Tree)

@@ -21,6 +21,8 @@ use Rattle.scev_sums.proofs.Held.{tree_among}
 use Rattle.scev_sums.proofs.Placing.{drop_next}
 use Rattle.scev_sums.proofs.Refusals.{led_on, refused}
 use Rattle.scev_sums.proofs.Telling.{told_same}
+use Rattle.scev_casts.proofs.AtomsCut.{only_tree, only_below, only_item, trunc_cut, zext_part, zext_cut, sext_part, sext_cut}
+use Rattle.scev_casts.proofs.AtomsCut.{rec_leads, rec_parts, rec_some, rec_cut, other_cut}
 use Rattle.scev_casts.proofs.Cutting.{same_width, other_width, sum_told, product_told, product_leads, terms_cut}
 use Rattle.scev_casts.proofs.Cutting.{monomial_leads, monomial_added, factors_cut, atom_leads, times_leads, multiplied}
 use Rattle.scev_casts.proofs.Cutting.{parts_cut, part_leads, part_added}
@@ -119,7 +121,7 @@ truncated_factors-returns-in_err-product-clause-tree t c =
     (times_leads c.args.nest.now w (drop i ids) c.loop-id.invariant from left atom grows c.in_ok-factor.factor
     c.in_ok-factor.ensures.tree)
     (product_told c.args.nest.now new (tree_of middle c.loop-id.product) (tree_of middle c.in_ok-factor.factor)
-    (Err c.in_err-product.field-0) wide.1 c.in_err-product.ensures.tree)
+    (Err c.in_err-product.field-0.0) wide.1 c.in_err-product.ensures.tree)
     (err_from_is_err_and c.from_residual-in_err-product.result c.from_residual-in_err-product.ensures.1)
 
 pub truncated_factors-loop-id-preserved : goal.truncated_factors-loop-id-preserved
@@ -323,3 +325,121 @@ with_monomial-returns-clause-tree t c =
     ∙ led_on told.0 leads told.1
     )
     c.make_sum.ensures.tree
+
+pub truncated_atom-of_extended-requires : goal.truncated_atom-of_extended-requires
+truncated_atom-of_extended-requires t c =
+    let nodes = c.args.arena.now in
+    let atom = c.atom_at-kind.ensures in
+    let same = c.as_slice.ensures ∙ c.in_ok-parts.ensures in
+    let one = zext_part nodes c.args.id c.atom_at-kind.result.0 c.atom_at-kind.result.1.bits
+    c.atom_at-kind.result.2.now c.args.nest.now c.args.w.bits atom.is atom.parts same c.in-Zext.is in
+    let d : ExprId = record { 0 = 0 } in
+    let less = only_below c.args.id.0 nodes d same one atom.below in (
+      omega (arith, c.decreases, less),
+      (only_tree c.args.id.0 nodes d same one atom.trees, ((λ v narrow. narrow), only_item d c.as_slice.ensures one)),
+    )
+
+pub truncated_atom-returns-in-Zext-clause-tree : goal.truncated_atom-returns-in-Zext-clause-tree
+truncated_atom-returns-in-Zext-clause-tree t c =
+    let atom = c.atom_at-kind.ensures in
+    let w = c.args.w.bits in
+    told_same (IsAt c.of_extended.new.arena w) _ _ c.of_extended.result
+    (zext_cut c.args.arena.now c.args.id c.atom_at-kind.result.0 c.atom_at-kind.result.1.bits
+    c.atom_at-kind.result.2.now c.args.nest.now w atom.is atom.parts (c.as_slice.ensures ∙ c.in_ok-parts.ensures)
+    (record { 0 = 0 }) c.in-Zext.is)
+    c.of_extended.ensures.tree
+
+pub truncated_atom-of_extended-requires-in-Sext : goal.truncated_atom-of_extended-requires-in-Sext
+truncated_atom-of_extended-requires-in-Sext t c =
+    let nodes = c.args.arena.now in
+    let atom = c.atom_at-kind.ensures in
+    let same = c.as_slice-in-Sext.ensures ∙ c.in_ok-parts.ensures in
+    let one = sext_part nodes c.args.id c.atom_at-kind.result.0 c.atom_at-kind.result.1.bits
+    c.atom_at-kind.result.2.now c.args.nest.now c.args.w.bits atom.is atom.parts same c.in-Sext.is in
+    let d : ExprId = record { 0 = 0 } in
+    let less = only_below c.args.id.0 nodes d same one atom.below in (
+      omega (arith, c.decreases, less),
+      (only_tree c.args.id.0 nodes d same one atom.trees, ((λ v narrow. narrow), only_item d c.as_slice-in-Sext.ensures one)),
+    )
+
+pub truncated_atom-returns-in-Sext-clause-tree : goal.truncated_atom-returns-in-Sext-clause-tree
+truncated_atom-returns-in-Sext-clause-tree t c =
+    let atom = c.atom_at-kind.ensures in
+    let w = c.args.w.bits in
+    told_same (IsAt c.of_extended-in-Sext.new.arena w) _ _ c.of_extended-in-Sext.result
+    (sext_cut c.args.arena.now c.args.id c.atom_at-kind.result.0 c.atom_at-kind.result.1.bits
+    c.atom_at-kind.result.2.now c.args.nest.now w atom.is atom.parts (c.as_slice-in-Sext.ensures ∙ c.in_ok-parts.ensures)
+    (record { 0 = 0 }) c.in-Sext.is)
+    c.of_extended-in-Sext.ensures.tree
+
+pub truncated_atom-returns-in-Trunc-clause-tree : goal.truncated_atom-returns-in-Trunc-clause-tree
+truncated_atom-returns-in-Trunc-clause-tree t c =
+    let atom = c.atom_at-kind.ensures in
+    let w = c.args.w.bits in
+    told_same (IsAt c.made.new.arena w) _ _ c.made.result
+    (trunc_cut c.args.arena.now c.args.id c.atom_at-kind.result.0 c.atom_at-kind.result.1.bits
+    c.atom_at-kind.result.2.now c.args.nest.now w atom.is atom.parts c.in_ok-parts.ensures c.in-Trunc.is)
+    c.made.ensures.tree
+
+pub truncated_atom-truncated_parts-requires : goal.truncated_atom-truncated_parts-requires
+truncated_atom-truncated_parts-requires t c =
+    let nodes = c.args.arena.now in
+    let atom = c.atom_at-kind.ensures in
+    let same = c.as_slice-ids.ensures ∙ c.in_ok-parts.ensures in (
+      omega (arith, c.decreases),
+      (
+        c.requires.width,
+        (
+          rec_parts nodes c.args.id c.atom_at-kind.result.0 c.atom_at-kind.result.1.bits c.atom_at-kind.result.2.now
+              c.args.nest.now c.args.w.bits atom.is atom.parts same c.args.from.bits c.in-Rec.is atom.width
+              c.requires.atom atom.trees,
+          subst (AreBelow c.args.id.0) (sym same) atom.below,
+        ),
+      ),
+    )
+
+pub truncated_atom-returns-in_err-parts-in-Rec-clause-tree :
+    goal.truncated_atom-returns-in_err-parts-in-Rec-clause-tree
+truncated_atom-returns-in_err-parts-in-Rec-clause-tree t c =
+    let atom = c.atom_at-kind.ensures in
+    let w = c.args.w.bits in
+    let new = c.truncated_parts.new.arena in
+    refused (HoldAt new w) (IsAt new w)
+    (rec_leads c.args.arena.now c.args.id c.atom_at-kind.result.0 c.atom_at-kind.result.1.bits
+    c.atom_at-kind.result.2.now c.args.nest.now w atom.is atom.parts
+    (c.as_slice-ids.ensures ∙ c.in_ok-parts.ensures) c.in-Rec.is)
+    c.in_err-parts-in-Rec.ensures.parts
+    (err_from_is_err_and c.from_residual-in_err-parts-in-Rec.result c.from_residual-in_err-parts-in-Rec.ensures.1)
+
+pub truncated_atom-make_rec-requires-clause-some : goal.truncated_atom-make_rec-requires-clause-some
+truncated_atom-make_rec-requires-clause-some t c =
+    let atom = c.atom_at-kind.ensures in
+    rec_some c.args.arena.now c.args.id c.atom_at-kind.result.0 c.atom_at-kind.result.1.bits
+    c.atom_at-kind.result.2.now c.args.nest.now c.args.w.bits atom.is atom.parts
+    (c.as_slice-ids.ensures ∙ c.in_ok-parts.ensures) c.truncated_parts.new.arena c.in-Rec.is
+    c.in_ok-parts-in-Rec.ensures.parts c.deref.ensures.value
+
+pub truncated_atom-returns-in_ok-parts-in-Rec-clause-tree :
+    goal.truncated_atom-returns-in_ok-parts-in-Rec-clause-tree
+truncated_atom-returns-in_ok-parts-in-Rec-clause-tree t c =
+    let atom = c.atom_at-kind.ensures in
+    let w = c.args.w.bits in
+    told_same (IsAt c.make_rec.new.arena w) _ _ c.make_rec.result
+    (rec_cut c.args.arena.now c.args.id c.atom_at-kind.result.0 c.atom_at-kind.result.1.bits
+    c.atom_at-kind.result.2.now c.args.nest.now w atom.is atom.parts
+    (c.as_slice-ids.ensures ∙ c.in_ok-parts.ensures) c.truncated_parts.new.arena c.in-Rec.is
+    c.in_ok-parts-in-Rec.ensures.parts c.deref.ensures.value)
+    c.make_rec.ensures.tree
+
+pub truncated_atom-returns-in_default : goal.truncated_atom-returns-in_default
+truncated_atom-returns-in_default t c =
+    let atom = c.atom_at-kind.ensures in
+    let w = c.args.w.bits in
+    let other = c.in_default in record {
+      grows = c.of_whole.ensures.grows;
+      tree = told_same (IsAt c.of_whole.new.arena w) _ _ c.of_whole.result
+          (other_cut c.args.arena.now c.args.id c.atom_at-kind.result.0 c.atom_at-kind.result.1.bits
+          c.atom_at-kind.result.2.now c.args.nest.now w atom.is atom.parts c.in_ok-parts.ensures c.args.from.bits
+          atom.width c.requires.atom other.not-Trunc other.not-Zext other.not-Sext other.not-Rec)
+          c.of_whole.ensures.tree;
+    }
