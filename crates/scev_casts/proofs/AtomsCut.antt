@@ -1,5 +1,5 @@
 -- How atoms are cut, by their kinds.
-use Rattle.std.proofs.Common.{◌≡◌, ℕ, zero, suc, ◌<◌, ◌≤◌, List, [], ◌∷◌, length, get_or, Option, refl, sym, ap, ◌∙◌, subst}
+use Rattle.std.proofs.Common.{◌≡◌, ℕ, suc, ◌<◌, ◌≤◌, List, [], ◌∷◌, length, get_or, Option, refl, sym, ap, ◌∙◌, subst}
 use Rattle.std.proofs.Common.{arith, Some, None}
 use Rattle.std.proofs.lemmas.List.{length-map}
 use Rattle.scev_base.specs.declared.ids.ExprId.{ExprId}
@@ -24,7 +24,6 @@ use Rattle.scev_walk.proofs.Among.{tree_among}
 use Rattle.scev_walk.proofs.Below.{below_among}
 use Rattle.scev_walk.proofs.Lists.{item_alone}
 use Rattle.scev_sums.specs.Answers.{AreAt, AreTreesOfAt, trees_at}
-use Rattle.scev_sums.proofs.Held.{as_many_parts}
 use Rattle.scev_sums.proofs.Refusals.{LeadsOn, led_on}
 
 -- ---- places
@@ -44,19 +43,17 @@ wide_parts nodes w [] h wide = tt
 wide_parts nodes w (id ∷ ids) h wide = ((h.0, wide.0), wide_parts nodes w ids h.1 wide.1)
 
 -- the only one of some places
-module _ (n : ℕ) (nodes : List Node) {there slice : List ExprId} (d : ExprId) (same : slice ≡ there)
-    (one : length slice ≡ 1) where
-  pub only_tree : AreTrees nodes there → IsTreeAt nodes (get_or slice 0 d)
-  only_tree trees =
+module _ {there slice : List ExprId} (d : ExprId) (same : slice ≡ there) (one : length slice ≡ 1) where
+  pub only_tree : (nodes : List Node) → AreTrees nodes there → IsTreeAt nodes (get_or slice 0 d)
+  only_tree nodes trees =
       tree_among nodes slice 0 d (get_or slice 0 d) (subst (AreTrees nodes) (sym same) trees) (omega (arith, one)) refl
 
-  pub only_below : AreBelow n there → (get_or slice 0 d).0 < n
-  only_below below =
+  pub only_below : (n : ℕ) → AreBelow n there → (get_or slice 0 d).0 < n
+  only_below n below =
       below_among n slice 0 d (get_or slice 0 d) (subst (AreBelow n) (sym same) below) (omega (arith, one)) refl
 
-pub only_item : {parts slice : List ExprId} (d : ExprId) → slice ≡ parts → length slice ≡ 1
-    → parts ≡ get_or slice 0 d ∷ []
-only_item {slice = slice} d is one = sym is ∙ item_alone slice d (omega (arith, one)) (omega (arith, one))
+  pub only_item : there ≡ get_or slice 0 d ∷ []
+  only_item = sym same ∙ item_alone slice d (omega (arith, one)) (omega (arith, one))
 
 -- as many parts come out
 parts_counted : (parents : List (Option ℕ)) (w : ℕ) (parts : Parts) (trees : List Tree)
@@ -165,7 +162,8 @@ module _ (nodes : List Node) (id : ExprId) (k : Kind) (v : ℕ) (there : List Ex
         ∙ sym (ap (λ ids. truncated_atom parents w (atom j v (parts_of (trees_at nodes ids)))) alone)
         ∙ ap (truncated_atom parents w) (atom_read is e same)
 
-    pub trunc_cut : k ≡ kind.Trunc → made kind.Trunc w (trees_at nodes slice) ≡ truncated_atom parents w (atom_of nodes id)
+    pub trunc_cut : k ≡ kind.Trunc
+        → made kind.Trunc w (trees_at nodes slice) ≡ truncated_atom parents w (atom_of nodes id)
     trunc_cut e =
         let one = cast_part e tt in
         let alone = item_alone slice id (omega (arith, one)) (omega (arith, one)) in
@@ -176,26 +174,31 @@ module _ (nodes : List Node) (id : ExprId) (k : Kind) (v : ℕ) (there : List Ex
     zext_part e = cast_part e tt
 
     pub zext_cut : (d : ExprId) → k ≡ kind.Zext
-        → of_extended kind.Zext w (tree_of nodes (get_or slice 0 d)) (truncated parents w (tree_of nodes (get_or slice 0 d)))
+        → of_extended kind.Zext w (tree_of nodes (get_or slice 0 d))
+        (truncated parents w (tree_of nodes (get_or slice 0 d)))
         ≡ truncated_atom parents w (atom_of nodes id)
     zext_cut d e =
-        only_cut (λ tree. of_extended kind.Zext w tree (truncated parents w tree)) d e (zext_part e) (of_zext parents w v)
+        only_cut (λ tree. of_extended kind.Zext w tree (truncated parents w tree)) d e (zext_part e)
+        (of_zext parents w v)
 
     pub sext_part : k ≡ kind.Sext → length slice ≡ 1
     sext_part e = cast_part e tt
 
     pub sext_cut : (d : ExprId) → k ≡ kind.Sext
-        → of_extended kind.Sext w (tree_of nodes (get_or slice 0 d)) (truncated parents w (tree_of nodes (get_or slice 0 d)))
+        → of_extended kind.Sext w (tree_of nodes (get_or slice 0 d))
+        (truncated parents w (tree_of nodes (get_or slice 0 d)))
         ≡ truncated_atom parents w (atom_of nodes id)
     sext_cut d e =
-        only_cut (λ tree. of_extended kind.Sext w tree (truncated parents w tree)) d e (sext_part e) (of_sext parents w v)
+        only_cut (λ tree. of_extended kind.Sext w tree (truncated parents w tree)) d e (sext_part e)
+        (of_sext parents w v)
 
     -- the parts of a recurrence lead on to it
     pub rec_leads : {l : LoopId} → k ≡ kind.Rec l
         → LeadsOn (truncated_parts parents w (parts_of (trees_at nodes slice))) (recurrence_of w l.0)
         (truncated_atom parents w (atom_of nodes id))
     rec_leads {l} e = record {
-      leads = of_rec parents w v l (parts_of (trees_at nodes slice)) ∙ ap (truncated_atom parents w) (atom_read is e same);
+      leads = of_rec parents w v l (parts_of (trees_at nodes slice))
+          ∙ ap (truncated_atom parents w) (atom_read is e same);
     }
 
     -- they are two or more of its width
@@ -240,6 +243,7 @@ module _ (nodes : List Node) (id : ExprId) (k : Kind) (v : ℕ) (there : List Ex
         → made kind.Trunc w (of_atom from (atom k from (parts_of (trees_at nodes slice))) ∷ [])
         ≡ truncated_atom parents w (atom_of nodes id)
     other_cut from h wide trunc zext sext rec =
-        sym (ap (λ u. made kind.Trunc w (of_atom u (atom k u (parts_of (trees_at nodes slice))) ∷ [])) (one_width v from _ h wide))
+        sym (ap (λ u. made kind.Trunc w (of_atom u (atom k u (parts_of (trees_at nodes slice))) ∷ []))
+        (one_width v from _ h wide))
         ∙ of_other parents w v k (parts_of (trees_at nodes slice)) trunc zext sext rec
         ∙ ap (truncated_atom parents w) (atom_read is refl same)

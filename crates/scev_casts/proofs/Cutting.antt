@@ -16,7 +16,7 @@ use Rattle.scev_forms.specs.Sums.{tree_sum, tree_product}
 use Rattle.scev_forms.specs.Casts.{truncated, truncated_terms, truncated_factors, truncated_atom, truncated_parts}
 use Rattle.scev_sums.specs.declared.error.FoldError.{FoldError}
 use Rattle.scev_sums.specs.Answers.{GoesOn, IsAt, IsTreeOfAt, AreTreesOfAt, Tells, trees_at}
-use Rattle.scev_sums.proofs.Growth.{goes_on_again, same_tree_goes_on, wide_goes_on, same_trees_go_on}
+use Rattle.scev_sums.proofs.Growth.{goes_on_again, same_tree_goes_on, same_trees_go_on}
 use Rattle.scev_sums.proofs.Growth.{same_factors_go_on}
 use Rattle.scev_sums.proofs.Placing.{more_held}
 use Rattle.scev_sums.proofs.Refusals.{LeadsOn, led_on}
@@ -114,8 +114,8 @@ some_number : {n m : ℕ} → n ≡ m → (n ≡ 0 → ⊥) → (m == 0) ≡ fal
 some_number {m = m} e some = ne_eqb m 0 (λ none. some (e ∙ none))
 
 -- the product of a monomial leads on to the sum with it
-pub product_leads : (parents : List (Option ℕ)) (from w n : ℕ) {r : ℕ} (old middle : List Node) {ids slice : List ExprId}
-    (start : ExprId) (sum : Tree)
+pub product_leads : (parents : List (Option ℕ)) (from w n : ℕ) {r : ℕ} (old middle : List Node)
+    {ids slice : List ExprId} (start : ExprId) (sum : Tree)
     → GoesOn old middle
     → AreAtoms old from ids
     → slice ≡ ids
@@ -147,7 +147,8 @@ pub record IsCutting (form : Tree → Outcome Tree) (w : ℕ) (whole : Outcome T
 
 -- the terms that are left
 module _ (parents : List (Option ℕ)) (w : ℕ) (ts : List Term) {whole : Outcome Tree} {first old : List Node}
-    {sum : ExprId} (cutting : IsCutting (truncated_terms parents w (terms_at (meanings first) ts)) w whole first old sum)
+    {sum : ExprId}
+    (cutting : IsCutting (truncated_terms parents w (terms_at (meanings first) ts)) w whole first old sum)
   where
     -- no term is left
     pub terms_cut : ts ≡ [] → whole ≡ Done (tree_of old sum)
@@ -155,7 +156,8 @@ module _ (parents : List (Option ℕ)) (w : ℕ) (ts : List Term) {whole : Outco
     terms_cut e =
         sym cutting.same ∙ ap (λ l. truncated_terms parents w (terms_at (meanings first) l) (tree_of old sum)) e
 
-    module _ (from : ℕ) {t : Term} {others : List Term} (left : ts ≡ t ∷ others) (atoms : AreAtoms first from t.ids) where
+    module _ (from : ℕ) {t : Term} {others : List Term} (left : ts ≡ t ∷ others)
+        (atoms : AreAtoms first from t.ids) where
       -- the next monomial leads on to the whole
       pub monomial_leads :
           LeadsOn (monomial_cut parents w (factors_at (meanings old) t.ids) t.coefficient (tree_of old sum))
@@ -211,7 +213,8 @@ module _ (parents : List (Option ℕ)) (w : ℕ) (ids : List ExprId) {whole : Ou
               leads = ap (λ a. next (truncated_atom parents w a)
                   (λ tree. next (tree_product parents w (tree_of old product) tree) rest))
                   (same_atom_goes_on first old from id cutting.grows atom)
-                  ∙ ap (λ l. truncated_factors parents w (factors_at (meanings first) l) (tree_of old product)) (sym left)
+                  ∙ ap (λ l. truncated_factors parents w (factors_at (meanings first) l) (tree_of old product))
+                  (sym left)
                   ∙ cutting.same;
             }
 

@@ -1,16 +1,14 @@
-use Rattle.std.proofs.Common.{◌≡◌, ℕ, ◌+◌, ◌==◌, List, [], ◌∷◌, get_or, drop, Vec, Global, Ok, Err, refl, sym, ap, ◌∙◌}
+use Rattle.std.proofs.Common.{ℕ, ◌+◌, ◌==◌, List, [], ◌∷◌, get_or, drop, Vec, Global, Ok, Err, refl, sym, ap, ◌∙◌}
 use Rattle.std.proofs.Common.{subst, arith}
 use Rattle.std.proofs.lemmas.Bool.{eqb-true}
 use Rattle.std.proofs.lemmas.List.{drop_all}
 use Rattle.std.proofs.lemmas.Result.{err_from_is_err_and}
 use Rattle.scev_base.specs.declared.ids.ExprId.{ExprId}
-use Rattle.scev_tree.specs.Tree.{Tree, polynomial}
+use Rattle.scev_tree.specs.Tree.{Tree, polynomial, constant}
 use Rattle.scev_arena.specs.declared.node.Node.{Node}
 use Rattle.scev_arena.specs.Meaning.{meanings, terms_at, tree_of}
-use Rattle.scev_arena.specs.Standing.{AreAtoms, IsAtomAt}
-use Rattle.scev_arena.proofs.WellMade.{atom_later}
-use Rattle.scev_forms.specs.Outcome.{Outcome, Done}
-use Rattle.scev_forms.specs.Sums.{tree_sum, tree_product}
+use Rattle.scev_arena.specs.Standing.{AreAtoms}
+use Rattle.scev_forms.specs.Sums.{tree_sum}
 use Rattle.scev_forms.specs.Casts as forms
 use Rattle.scev_walk.specs.Reading.{AreBelow}
 use Rattle.scev_walk.proofs.Among.{atom_among, term_among}
@@ -21,8 +19,8 @@ use Rattle.scev_sums.proofs.Held.{tree_among}
 use Rattle.scev_sums.proofs.Placing.{drop_next}
 use Rattle.scev_sums.proofs.Refusals.{led_on, refused}
 use Rattle.scev_sums.proofs.Telling.{told_same}
-use Rattle.scev_casts.proofs.AtomsCut.{only_tree, only_below, only_item, trunc_cut, zext_part, zext_cut, sext_part, sext_cut}
-use Rattle.scev_casts.proofs.AtomsCut.{rec_leads, rec_parts, rec_some, rec_cut, other_cut}
+use Rattle.scev_casts.proofs.AtomsCut.{only_tree, only_below, only_item, trunc_cut, zext_part, zext_cut, sext_part}
+use Rattle.scev_casts.proofs.AtomsCut.{sext_cut, rec_leads, rec_parts, rec_some, rec_cut, other_cut}
 use Rattle.scev_casts.proofs.Cutting.{same_width, other_width, sum_told, product_told, product_leads, terms_cut}
 use Rattle.scev_casts.proofs.Cutting.{monomial_leads, monomial_added, factors_cut, atom_leads, times_leads, multiplied}
 use Rattle.scev_casts.proofs.Cutting.{parts_cut, part_leads, part_added}
@@ -40,10 +38,11 @@ pub truncated-returns-then-eq-clause-tree : goal.truncated-returns-then-eq-claus
 truncated-returns-then-eq-clause-tree t c =
     let w = c.args.w.bits in
     let tree = tree_of c.args.arena.now c.args.id in
-    let test = c.eq.ensures ∙ ap (λ v. v == w) c.width.ensures.width in (
+    let test = c.eq.ensures ∙ ap (λ v. v == w) c.width.ensures.width in
+    let wide = sym c.width.ensures.width ∙ eqb-true c.width.result.bits w (sym c.eq.ensures ∙ c.if-eq.true) in (
       tree,
       same_width c.args.nest.now w tree test c.if-eq.true,
-      ((c.requires.tree, sym c.width.ensures.width ∙ eqb-true c.width.result.bits w (sym c.eq.ensures ∙ c.if-eq.true)), refl),
+      ((c.requires.tree, wide), refl),
     )
 
 pub truncated-returns-clause-tree : goal.truncated-returns-clause-tree
@@ -66,7 +65,8 @@ truncated_factors-truncated_atom-requires t c =
     let first = c.args.arena.now in
     let less = below_among c.args.below ids i (record { 0 = 0 }) (id_at ids i) c.requires.below c.loop-id-test.true
     refl in
-    let atom = atom_among first from ids i (record { 0 = 0 }) (id_at ids i) c.requires.atoms c.loop-id-test.true refl in (
+    let atom = atom_among first from ids i (record { 0 = 0 }) (id_at ids i) c.requires.atoms c.loop-id-test.true
+    refl in (
       omega (arith, c.decreases, less),
       (
         c.requires.width,
@@ -230,7 +230,9 @@ truncated_terms-returns-in_err-sum-2-clause-tree t c =
     let left = drop_next ts i term c.loop-term-test.true ∙ ap (λ s. s ∷ drop (i + 1) ts) (sym c.term-item.is) in
     let atoms = term_among c.args.arena.now from ts i term term c.requires.over c.loop-term-test.true c.term-item.is in
     refused (IsAt new w) (IsAt new w)
-    (monomial_leads c.args.nest.now w (drop i ts) c.loop-term.invariant from left atoms)
+    (monomial_leads c.args.nest.now w (drop i ts)
+    {whole = forms.truncated_terms c.args.nest.now w (terms_at (meanings c.args.arena.now) ts) (constant w 0)}
+    c.loop-term.invariant from left atoms)
     c.in_err-sum-2.ensures.tree
     (err_from_is_err_and c.from_residual-in_err-sum-2.result c.from_residual-in_err-sum-2.ensures.1)
 
@@ -243,7 +245,9 @@ truncated_terms-loop-term-preserved t c =
     let w = c.args.w.bits in
     let left = drop_next ts i term c.loop-term-test.true ∙ ap (λ s. s ∷ drop (i + 1) ts) (sym c.term-item.is) in
     let atoms = term_among c.args.arena.now from ts i term term c.requires.over c.loop-term-test.true c.term-item.is in
-    monomial_added c.args.nest.now w (drop i ts) c.loop-term.invariant from left atoms c.with_monomial.ensures.grows
+    monomial_added c.args.nest.now w (drop i ts)
+    {whole = forms.truncated_terms c.args.nest.now w (terms_at (meanings c.args.arena.now) ts) (constant w 0)}
+    c.loop-term.invariant from left atoms c.with_monomial.ensures.grows
     c.in_ok-sum-2.ensures.tree
 
 pub truncated_terms-returns-clause-tree : goal.truncated_terms-returns-clause-tree
@@ -252,7 +256,10 @@ truncated_terms-returns-clause-tree t c =
     let i = c.loop-term.term-index in
     let none = drop_all i ts c.loop-term-test.false in (
       tree_of c.loop-term.arena c.loop-term.sum,
-      terms_cut c.args.nest.now c.args.w.bits (drop i ts) c.loop-term.invariant none,
+      terms_cut c.args.nest.now c.args.w.bits (drop i ts)
+          {whole = forms.truncated_terms c.args.nest.now c.args.w.bits (terms_at (meanings c.args.arena.now) ts)
+          (constant c.args.w.bits 0)}
+          c.loop-term.invariant none,
       (c.loop-term.invariant.tree, refl),
     )
 
@@ -320,7 +327,8 @@ with_monomial-returns-clause-tree t c =
     sum_told parents c.make_sum.new.arena (tree_of middle sum) (tree_of middle product) c.make_sum.result
     (wide_goes_on old middle grows w sum c.requires.sum).1
     (
-    ap (λ tree. tree_sum parents w tree (tree_of middle product)) (same_tree_goes_on old middle grows sum c.requires.sum.0)
+    ap (λ tree. tree_sum parents w tree (tree_of middle product))
+    (same_tree_goes_on old middle grows sum c.requires.sum.0)
     ∙ ap (tree_sum parents w (tree_of old sum)) told.2.1
     ∙ led_on told.0 leads told.1
     )
@@ -334,9 +342,9 @@ truncated_atom-of_extended-requires t c =
     let one = zext_part nodes c.args.id c.atom_at-kind.result.0 c.atom_at-kind.result.1.bits
     c.atom_at-kind.result.2.now c.args.nest.now c.args.w.bits atom.is atom.parts same c.in-Zext.is in
     let d : ExprId = record { 0 = 0 } in
-    let less = only_below c.args.id.0 nodes d same one atom.below in (
+    let less = only_below d same one c.args.id.0 atom.below in (
       omega (arith, c.decreases, less),
-      (only_tree c.args.id.0 nodes d same one atom.trees, ((λ v narrow. narrow), only_item d c.as_slice.ensures one)),
+      (only_tree d same one nodes atom.trees, ((λ v less. less), only_item d c.as_slice.ensures one)),
     )
 
 pub truncated_atom-returns-in-Zext-clause-tree : goal.truncated_atom-returns-in-Zext-clause-tree
@@ -357,9 +365,9 @@ truncated_atom-of_extended-requires-in-Sext t c =
     let one = sext_part nodes c.args.id c.atom_at-kind.result.0 c.atom_at-kind.result.1.bits
     c.atom_at-kind.result.2.now c.args.nest.now c.args.w.bits atom.is atom.parts same c.in-Sext.is in
     let d : ExprId = record { 0 = 0 } in
-    let less = only_below c.args.id.0 nodes d same one atom.below in (
+    let less = only_below d same one c.args.id.0 atom.below in (
       omega (arith, c.decreases, less),
-      (only_tree c.args.id.0 nodes d same one atom.trees, ((λ v narrow. narrow), only_item d c.as_slice-in-Sext.ensures one)),
+      (only_tree d same one nodes atom.trees, ((λ v less. less), only_item d c.as_slice-in-Sext.ensures one)),
     )
 
 pub truncated_atom-returns-in-Sext-clause-tree : goal.truncated_atom-returns-in-Sext-clause-tree
@@ -368,7 +376,8 @@ truncated_atom-returns-in-Sext-clause-tree t c =
     let w = c.args.w.bits in
     told_same (IsAt c.of_extended-in-Sext.new.arena w) _ _ c.of_extended-in-Sext.result
     (sext_cut c.args.arena.now c.args.id c.atom_at-kind.result.0 c.atom_at-kind.result.1.bits
-    c.atom_at-kind.result.2.now c.args.nest.now w atom.is atom.parts (c.as_slice-in-Sext.ensures ∙ c.in_ok-parts.ensures)
+    c.atom_at-kind.result.2.now c.args.nest.now w atom.is atom.parts
+    (c.as_slice-in-Sext.ensures ∙ c.in_ok-parts.ensures)
     (record { 0 = 0 }) c.in-Sext.is)
     c.of_extended-in-Sext.ensures.tree
 
