@@ -1,11 +1,13 @@
 //! The lowest bits of expressions. They go into coefficients, factors and the parts of recurrences.
 
 ghost use Rattle.std.specs.Prelude.{◌≡◌, ℕ, ◌<◌, ◌≤◌, ◌%◌, ◌^◌, [], ◌∷◌, map, IfOk, option_map};
+ghost use Rattle.scev_tree.specs.declared.kind.Kind.TheVariants as kinds;
 ghost use Rattle.scev_tree.specs.Tree as tree;
 ghost use Rattle.scev_tree.specs.Canonical.{HasParts};
 ghost use Rattle.scev_arena.specs.Meaning.{meanings, terms_at, factors_at, tree_of, atom_of};
-ghost use Rattle.scev_arena.specs.Standing.{IsTreeAt, IsAtomAt, AreAtoms, AreOverAtoms};
+ghost use Rattle.scev_arena.specs.Standing.{IsTreeAt, IsAtomAt, AreTrees, AreAtoms, AreOverAtoms};
 ghost use Rattle.scev_walk.specs.Reading.{AreBelow, AreOverBelow};
+ghost use Rattle.scev_forms.specs.Atoms.{made as forms_made};
 ghost use Rattle.scev_forms.specs.Casts as forms;
 ghost use Rattle.scev_sums.specs.Answers.{GoesOn, IsAt, AreAt, IsTreeOfAt, AreTreesOfAt, Tells};
 ghost use Rattle.scev_sums.specs.Values.{HasValue, value_at};
@@ -38,6 +40,8 @@ pub fn make_trunc(
     ensures value { IfOk result (HasValue arena.new (λ held turns.
         option_map (λ n. n % 2 ^ to.bits) (value_at arena.old id held turns))) }
 {
+    // An arena tells with its length that its trees are canonical.
+    let _ = arena.len();
     truncated(alloc, arena, nest, to, id)
 }
 
@@ -178,31 +182,44 @@ fn truncated_atom(
 {
     let (kind, _, parts) = atom_at(arena, id);
     let parts = Items::from_slice(alloc, parts)?;
-    match (kind, parts.as_slice()) {
-        (Kind::Trunc, _) => made(alloc, arena, Kind::Trunc, w, parts),
-        (Kind::Zext, [only]) => {
-            let only = *only;
+    match kind {
+        Kind::Trunc => made(alloc, arena, Kind::Trunc, w, parts),
+        Kind::Zext => {
+            let only = parts.as_slice()[0];
             of_extended(alloc, arena, nest, w, Kind::Zext, only, parts)
         }
-        (Kind::Sext, [only]) => {
-            let only = *only;
+        Kind::Sext => {
+            let only = parts.as_slice()[0];
             of_extended(alloc, arena, nest, w, Kind::Sext, only, parts)
         }
-        (Kind::Rec(l), parts) => {
-            let parts = truncated_parts(alloc, arena, nest, from, w, id.0, parts)?;
+        Kind::Rec(l) => {
+            let ids = parts.as_slice();
+            let parts = truncated_parts(alloc, arena, nest, from, w, id.0, ids)?;
             make_rec(alloc, arena, w, l, &parts)
         }
-        _ => {
-            let whole = tree_of_atom(alloc, arena, kind, from, parts)?;
-            made(
-                alloc,
-                arena,
-                Kind::Trunc,
-                w,
-                Items::from_slice(alloc, &[whole])?,
-            )
-        }
+        _ => of_whole(alloc, arena, kind, from, w, parts),
     }
+}
+
+/// The lowest bits of an atom as a whole, given its kind, its width and its parts.
+fn of_whole(
+    alloc: Global,
+    arena: &mut Arena,
+    kind: Kind,
+    from: Width,
+    w: Width,
+    parts: Items<ExprId>,
+) -> Result<ExprId, FoldError>
+    requires width { w.bits < from.bits }
+    requires parts { AreTrees arena.old parts }
+    requires kind { HasParts kind from.bits (tree.parts_of (map (tree_of arena.old) parts)) }
+    ensures grows { GoesOn arena.old arena.new }
+    ensures tree { Tells (IsAt arena.new w.bits) (forms_made kinds.Trunc w.bits (tree.of_atom from.bits
+        (tree.atom kind from.bits (tree.parts_of (map (tree_of arena.old) parts))) ∷ [])) result }
+{
+    let whole = tree_of_atom(alloc, arena, kind, from, parts)?;
+    let parts = Items::from_slice(alloc, &[whole])?;
+    made(alloc, arena, Kind::Trunc, w, parts)
 }
 
 /// The lowest bits of a tree that is extended, of its parts: it alone.
