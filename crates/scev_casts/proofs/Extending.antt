@@ -1,7 +1,7 @@
 -- Extensions by their cases, as they are formed.
 use Rattle.std.proofs.Common.{◌≡◌, ℕ, ◌<◌, ◌≤◌, ◌^◌, ◌==◌, eqb, Bool, true, false, List, [], ◌∷◌, length, map, Option}
 use Rattle.std.proofs.Common.{Some, None, Ok, Err, Result, IfOk, refl, sym, ap, ◌∙◌, subst, arith, eq-eqb}
-use Rattle.std.proofs.lemmas.Bool.{ne_eqb, cond_both, eqb-true}
+use Rattle.std.proofs.lemmas.Bool.{ne_eqb, cond_both, eqb-true, eqb-false}
 use Rattle.std.proofs.lemmas.List.{length-map}
 use Rattle.scev_base.specs.declared.ids.ExprId.{ExprId}
 use Rattle.scev_base.specs.declared.ids.LoopId.{LoopId}
@@ -73,14 +73,30 @@ joined_parts how.Sign kind.Sext k w v tree parts joined =
 joined_parts how.Zero _ k w v tree parts joined = absurd cc
 joined_parts how.Sign _ k w v tree parts joined = absurd cc
 
--- the same, of the trees that are the parts
-pub joined_made : (how : Extension) (inner k : Kind) (w v : ℕ) (tree : Tree) (trees : List Tree)
-    → joined_kind how inner ≡ Some k
-    → made k w trees ≡ extended_atom (kind_of how) w tree (Some (atom inner v (parts_of trees)))
-joined_made how inner k w v tree trees joined =
-    ap (made k w) (sym (trees_again trees)) ∙ joined_parts how inner k w v tree (parts_of trees) joined
+-- the same of the parts at places
+pub joined_made : (how : Extension) (nodes : List Node) (ids : List ExprId) (w v : ℕ) (tree : Tree)
+    {inner k : Kind} {a : Atom} {o : Option Atom} {parts : List ExprId}
+    → Some a ≡ o
+    → a ≡ atom inner v (parts_of (map (tree_of nodes) ids))
+    → Some k ≡ joined_kind how inner
+    → parts ≡ ids
+    → made k w (map (tree_of nodes) parts) ≡ extended_atom (kind_of how) w tree o
+joined_made how nodes ids w v tree {inner} {k} only is joined same =
+    let trees = map (tree_of nodes) ids in
+    ap (λ l. made k w (map (tree_of nodes) l)) same
+    ∙ ap (made k w) (sym (trees_again trees))
+    ∙ joined_parts how inner k w v tree (parts_of trees) (sym joined)
+    ∙ ap (extended_atom (kind_of how) w tree) (sym (ap Some is) ∙ only)
 
 -- ---- any tree
+
+-- what a test tells of the width of a tree
+module _ (w : ℕ) {from v : ℕ} {test : Bool} (is : from ≡ v) (tells : test ≡ eqb from w) where
+  pub is_same : test ≡ true → v ≡ w
+  is_same so = sym is ∙ eqb-true from w (sym tells ∙ so)
+
+  pub is_other : test ≡ false → v ≡ w → ⊥
+  is_other so same = eqb-false from w (sym tells ∙ so) (is ∙ same)
 
 module _ (k : Kind) (w : ℕ) (tree : Tree) where
   -- of the same width it is itself
