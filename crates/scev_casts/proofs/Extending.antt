@@ -1,7 +1,7 @@
 -- Extensions by their cases, as they are formed.
-use Rattle.std.proofs.Common.{◌≡◌, ℕ, ◌<◌, ◌≤◌, ◌^◌, ◌==◌, eqb, Bool, true, false, List, [], ◌∷◌, length, map, Option}
+use Rattle.std.proofs.Common.{◌≡◌, ℕ, ◌<◌, ◌≤◌, ◌^◌, ◌==◌, eqb, not, Bool, true, false, List, [], ◌∷◌, length, map, Option}
 use Rattle.std.proofs.Common.{Some, None, Ok, Err, Result, IfOk, refl, sym, ap, ◌∙◌, subst, arith, eq-eqb}
-use Rattle.std.proofs.lemmas.Bool.{ne_eqb, cond_both, eqb-true, eqb-false}
+use Rattle.std.proofs.lemmas.Bool.{ne_eqb, cond_both, eqb-true, eqb-false, not-true, not-false}
 use Rattle.std.proofs.lemmas.List.{length-map}
 use Rattle.scev_base.specs.declared.ids.ExprId.{ExprId}
 use Rattle.scev_base.specs.declared.ids.LoopId.{LoopId}
@@ -23,7 +23,7 @@ use Rattle.scev_forms.proofs.WithinRange.{within_value}
 use Rattle.scev_sums.specs.declared.error.FoldError.{FoldError}
 use Rattle.scev_sums.specs.Answers.{IsAt, Tells}
 use Rattle.scev_sums.proofs.Making.{canonical_at}
-use Rattle.scev_sums.proofs.Refusals.{LeadsOn}
+use Rattle.scev_sums.proofs.Refusals.{LeadsOn, led_on}
 use Rattle.scev_casts.specs.declared.extensions.Extension.{Extension}
 use Rattle.scev_casts.specs.declared.extensions.Extension.TheVariants as how
 use Rattle.scev_casts.specs.Extensions.{HasExtension, kind_of, joined_kind, affine_parts}
@@ -98,6 +98,14 @@ module _ (w : ℕ) {from v : ℕ} {test : Bool} (is : from ≡ v) (tells : test 
   pub is_other : test ≡ false → v ≡ w → ⊥
   is_other so same = eqb-false from w (sym tells ∙ so) (is ∙ same)
 
+-- the same of the test that it is another one
+module _ (w : ℕ) {from v : ℕ} {test : Bool} (is : from ≡ v) (tells : test ≡ not (eqb from w)) where
+  pub not_other : test ≡ false → v ≡ w
+  not_other so = sym is ∙ eqb-true from w (not-false (eqb from w) (sym tells ∙ so))
+
+  pub not_same : test ≡ true → v ≡ w → ⊥
+  not_same so same = eqb-false from w (not-true (eqb from w) (sym tells ∙ so)) (is ∙ same)
+
 module _ (k : Kind) (w : ℕ) (tree : Tree) where
   -- of the same width it is itself
   pub same_extended : width_of tree ≡ w → extended k w tree ≡ Done tree
@@ -158,18 +166,29 @@ module _ (k : Kind) (w : ℕ) (tree : Tree) where
   parts_when other parts same =
       rw (ne_eqb (width_of tree) w other) (ap (by_parts k w tree) same ∙ sym (rec_by_parts k w tree (alone tree)))
 
-  -- what is no affine recurrence is extended as any other tree
-  pub no_parts_when : (width_of tree ≡ w → ⊥) → None ≡ affine_parts (alone tree)
-      → extended k w tree ≡ extended_when k w true tree
-  no_parts_when other none = parts_when other None none
+module _ (k : Kind) (w : ℕ) (tree : Tree) {no_wrap : Bool} (known : no_wrap ≡ true) (other : width_of tree ≡ w → ⊥) where
+  known_when : extended_when k w true tree ≡ extended_when k w no_wrap tree
+  known_when = ap (λ b. extended_when k w b tree) (sym known)
 
-  module _ (other : width_of tree ≡ w → ⊥) (l : LoopId) (first step : Tree)
-      (parts : Some (l, first, step) ≡ affine_parts (alone tree)) where
+  -- what is no affine recurrence is extended as any other tree
+  pub no_parts_when : None ≡ affine_parts (alone tree) → extended k w tree ≡ extended_when k w no_wrap tree
+  no_parts_when none = parts_when k w tree other None none ∙ known_when
+
+  module _ (l : LoopId) (first step : Tree) (parts : Some (l, first, step) ≡ affine_parts (alone tree)) where
     -- the extended start of an affine one leads on to all
     pub start_leads : LeadsOn (extended k w first)
         (λ start. next (extended k w step) (λ more. recurrence_of w l.0 (start ∷ more ∷ [])))
-        (extended_when k w true tree)
-    start_leads = record { leads = parts_when other (Some (l, first, step)) parts; }
+        (extended_when k w no_wrap tree)
+    start_leads = record { leads = parts_when k w tree other (Some (l, first, step)) parts ∙ known_when; }
+
+    module _ (start : Tree) (starts : extended k w first ≡ Done start) {here : Tree} (same : here ≡ step) where
+      -- so does its extended step
+      pub more_leads : LeadsOn (extended k w here) (λ more. recurrence_of w l.0 (start ∷ more ∷ []))
+          (extended_when k w no_wrap tree)
+      more_leads = record {
+        leads = ap (λ one. next (extended k w one) (λ more. recurrence_of w l.0 (start ∷ more ∷ []))) same
+            ∙ led_on start start_leads starts;
+      }
 
 -- ---- values
 
