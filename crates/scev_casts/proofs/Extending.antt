@@ -1,6 +1,6 @@
 -- Extensions by their cases, as they are formed.
-use Rattle.std.proofs.Common.{◌≡◌, ℕ, ◌<◌, ◌≤◌, ◌^◌, ◌==◌, eqb, not, Bool, true, false, List, [], ◌∷◌, length, map, Option}
-use Rattle.std.proofs.Common.{Some, None, Ok, Err, Result, IfOk, refl, sym, ap, ◌∙◌, subst, arith, eq-eqb}
+use Rattle.std.proofs.Common.{◌≡◌, ℕ, ◌<◌, ◌≤◌, ◌^◌, ◌==◌, eqb, not, Bool, true, false, List, [], ◌∷◌, length, map}
+use Rattle.std.proofs.Common.{Option, Some, None, Ok, Err, Result, IfOk, refl, sym, ap, ◌∙◌, subst, eq-eqb}
 use Rattle.std.proofs.lemmas.Bool.{ne_eqb, cond_both, eqb-true, eqb-false, not-true, not-false}
 use Rattle.std.proofs.lemmas.List.{length-map}
 use Rattle.scev_base.specs.declared.ids.ExprId.{ExprId}
@@ -90,19 +90,23 @@ joined_made how nodes ids w v tree {inner} {k} only is joined same =
 
 -- ---- any tree
 
--- what a test tells of the width of a tree
+-- a test whether two widths are one
 module _ (w : ℕ) {from v : ℕ} {test : Bool} (is : from ≡ v) (tells : test ≡ eqb from w) where
+  -- they are
   pub is_same : test ≡ true → v ≡ w
   is_same so = sym is ∙ eqb-true from w (sym tells ∙ so)
 
+  -- they aren't
   pub is_other : test ≡ false → v ≡ w → ⊥
   is_other so same = eqb-false from w (sym tells ∙ so) (is ∙ same)
 
--- the same of the test that it is another one
+-- a test whether they differ
 module _ (w : ℕ) {from v : ℕ} {test : Bool} (is : from ≡ v) (tells : test ≡ not (eqb from w)) where
+  -- they don't
   pub not_other : test ≡ false → v ≡ w
   not_other so = sym is ∙ eqb-true from w (not-false (eqb from w) (sym tells ∙ so))
 
+  -- they do
   pub not_same : test ≡ true → v ≡ w → ⊥
   not_same so same = eqb-false from w (not-true (eqb from w) (sym tells ∙ so)) (is ∙ same)
 
@@ -141,6 +145,7 @@ by_parts k w tree (Some parts) =
     recurrence_of w parts.0.0 (start ∷ more ∷ [])))
 by_parts k w tree None = extended k w tree
 
+-- each atom by what parts it has
 rec_by_parts : (k : Kind) (w : ℕ) (tree : Tree) (o : Option Atom)
     → extended_rec k w tree o ≡ by_parts k w tree (affine_parts o)
 rec_by_parts k w tree (Some (atom (kind.Rec loop) v (part first (part step no_parts)))) = refl
@@ -166,7 +171,10 @@ module _ (k : Kind) (w : ℕ) (tree : Tree) where
   parts_when other parts same =
       rw (ne_eqb (width_of tree) w other) (ap (by_parts k w tree) same ∙ sym (rec_by_parts k w tree (alone tree)))
 
-module _ (k : Kind) (w : ℕ) (tree : Tree) {no_wrap : Bool} (known : no_wrap ≡ true) (other : width_of tree ≡ w → ⊥) where
+-- of a tree of another width, of which it may be known
+module _ (k : Kind) (w : ℕ) (tree : Tree) {no_wrap : Bool} (known : no_wrap ≡ true)
+    (other : width_of tree ≡ w → ⊥) where
+  -- it is known
   known_when : extended_when k w true tree ≡ extended_when k w no_wrap tree
   known_when = ap (λ b. extended_when k w b tree) (sym known)
 
@@ -179,7 +187,7 @@ module _ (k : Kind) (w : ℕ) (tree : Tree) {no_wrap : Bool} (known : no_wrap �
     pub start_leads : LeadsOn (extended k w first)
         (λ start. next (extended k w step) (λ more. recurrence_of w l.0 (start ∷ more ∷ [])))
         (extended_when k w no_wrap tree)
-    start_leads = record { leads = parts_when k w tree other (Some (l, first, step)) parts ∙ known_when; }
+    start_leads = record { leads = parts_when k w tree other (Some (l, first, step)) parts ∙ known_when }
 
     module _ (start : Tree) (starts : extended k w first ≡ Done start) {here : Tree} (same : here ≡ step) where
       -- so does its extended step

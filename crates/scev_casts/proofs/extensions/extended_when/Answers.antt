@@ -1,6 +1,6 @@
-use Rattle.std.proofs.Common.{◌≡◌, ℕ, ◌≤◌, [], ◌∷◌, refl, sym, ap, ◌∙◌, subst}
+use Rattle.std.proofs.Common.{◌≡◌, ℕ, ◌≤◌, [], ◌∷◌, sym, ap, ◌∙◌, subst}
 use Rattle.std.proofs.lemmas.Result.{err_from_is_err_and}
-use Rattle.scev_tree.specs.Tree.{Tree, width_of}
+use Rattle.scev_tree.specs.Tree.{width_of}
 use Rattle.scev_arena.specs.Meaning.{tree_of}
 use Rattle.scev_forms.specs.Sums.{recurrence_of}
 use Rattle.scev_forms.specs.Casts.{extended, extended_when}
