@@ -60,6 +60,8 @@ pub fn make_zext(
     ensures value { IfOk result (HasExtension arena.old arena.new kind.Zext to.bits no_wrap id) }
 {
     let _ = nest;
+    // With a width it is told that the arena's trees are canonical.
+    let _ = width(arena, id);
     extended_when(alloc, arena, Extension::Zero, to, no_wrap, id)
 }
 
@@ -83,6 +85,8 @@ pub fn make_sext(
     ensures value { IfOk result (HasExtension arena.old arena.new kind.Sext to.bits no_wrap id) }
 {
     let _ = nest;
+    // With a width it is told that the arena's trees are canonical.
+    let _ = width(arena, id);
     extended_when(alloc, arena, Extension::Sign, to, no_wrap, id)
 }
 
