@@ -21,16 +21,7 @@ use Rattle.scev_sums.proofs.Held.{as_many_parts}
 use Rattle.scev_sums.proofs.RecParts.{trees_again, wide_parts}
 use Rattle.scev_minima.specs.Kinds.{IsFlattened}
 
--- a kind whose atoms take in others takes many parts
-pub takes_many : (k : Kind) → IsFlattened k → TakesMany k
-takes_many kind.Smax is = tt
-takes_many kind.Umax is = tt
-takes_many kind.Smin is = tt
-takes_many kind.Umin is = tt
-takes_many kind.Seq is = tt
-takes_many _ is = absurd is
-
--- it has two or more, of its width
+-- an atom of a kind that takes in others has two parts or more, of its width
 many_parts : (k : Kind) (w : ℕ) (parts : Parts)
     → IsFlattened k
     → HasParts k w parts
@@ -41,6 +32,18 @@ many_parts kind.Smin w parts is has = has
 many_parts kind.Umin w parts is has = has
 many_parts kind.Seq w parts is has = has
 many_parts _ w parts is has = absurd is
+
+-- and any such
+pub has_many : (k : Kind) (w : ℕ) (parts : Parts)
+    → IsFlattened k
+    → (2 ≤ count_parts parts) × HaveWidth w parts
+    → HasParts k w parts
+has_many kind.Smax w parts is has = has
+has_many kind.Umax w parts is has = has
+has_many kind.Smin w parts is has = has
+has_many kind.Umin w parts is has = has
+has_many kind.Seq w parts is has = has
+has_many _ w parts is has = absurd is
 
 -- a kind is such a one where its rank is
 pub same_by_rank : (inner k : Kind) → IsFlattened k → same_kind inner k ≡ (rank inner == rank k)
@@ -89,10 +92,6 @@ module _ (nodes : List Node) (k : Kind) (id place : ExprId) (inner : Kind) (v : 
   flat_same b =
       sym (flat_if ∙ ap (λ c. if c then trees_at nodes parts else tree_of nodes id ∷ []) b)
 
-  -- another is itself
-  pub flat_other : (rank inner == rank k) ≡ false → tree_of nodes id ∷ [] ≡ flattened k (tree_of nodes id)
-  flat_other b = sym (flat_if ∙ ap (λ c. if c then trees_at nodes parts else tree_of nodes id ∷ []) b)
-
   -- the parts stand at places of the width
   pub flat_trees : (w : ℕ) → IsFlattened k → inner ≡ k → IsTreeOfAt nodes w id
       → IsAtomAt nodes (width_of (tree_of nodes id)) place
@@ -106,12 +105,3 @@ module _ (nodes : List Node) (k : Kind) (id place : ExprId) (inner : Kind) (v : 
       let many = many_parts k v (parts_of (trees_at nodes parts)) flat
       (subst (λ x. HasParts x v (parts_of (trees_at nodes parts))) same has) in
       wide_parts nodes w parts trees (subst (λ x. HaveWidth x (parts_of (trees_at nodes parts))) width many.1)
-
-  -- there are two or more
-  pub flat_many : IsFlattened k → inner ≡ k
-      → HasParts inner v (parts_of (trees_at nodes parts))
-      → 2 ≤ length parts
-  flat_many flat same has =
-      let many = many_parts k v (parts_of (trees_at nodes parts)) flat
-      (subst (λ x. HasParts x v (parts_of (trees_at nodes parts))) same has) in
-      subst (λ n. 2 ≤ n) (as_many_parts nodes parts) many.0
