@@ -40,7 +40,7 @@ with_tree_are_trees w tree (other ∷ trees) is h =
     (λ _. (is, h)))
 
 -- the trees that are no numbers
-no_numbers_are_trees : (w : ℕ) (trees : List Tree) → AreTreesOf w trees → AreTreesOf w (no_numbers trees)
+pub no_numbers_are_trees : (w : ℕ) (trees : List Tree) → AreTreesOf w trees → AreTreesOf w (no_numbers trees)
 no_numbers_are_trees w [] h = tt
 no_numbers_are_trees w (tree ∷ trees) h =
     let others = no_numbers_are_trees w trees h.1 in
@@ -89,7 +89,7 @@ first_not_empty k w (Some m) None tree trees = number_not_empty k w m trees
 first_not_empty k w (Some m) (Some n) tree trees = number_not_empty k w (chosen k w m n) trees
 
 -- so of some trees there is a part
-min_parts_not_empty : (k : Kind) (w : ℕ) (trees : List Tree)
+pub min_parts_not_empty : (k : Kind) (w : ℕ) (trees : List Tree)
     → NotEmpty trees
     → NotEmpty (min_parts_of k w (numbers_joined k w trees) (no_numbers trees))
 min_parts_not_empty k w [] h = absurd h
