@@ -1,2 +1,3 @@
 pub mod Flattening
 pub mod InOrder
+pub mod Numbers

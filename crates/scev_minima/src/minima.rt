@@ -177,8 +177,9 @@ pub(crate) fn of_parts(
     ensures tree { Tells (IsAt arena.new w.bits)
         (forms.of_parts kind w.bits (trees_at arena.old parts.items)) result }
 {
-    match parts.as_slice() {
-        [only] => Ok(*only),
-        _ => made(alloc, arena, kind, w, Items::from_vec(parts)),
+    if parts.len() == 1 {
+        Ok(parts[0])
+    } else {
+        made(alloc, arena, kind, w, Items::from_vec(parts))
     }
 }

@@ -8,18 +8,6 @@ use Rattle.scev_sums.proofs.Held.{are_trees, have_width, as_many_parts}
 use Rattle.scev_walk.proofs.Lists.{no_item}
 use Rattle.scev_minima.proofs.Flattening.{has_many}
 use Rattle.scev_minima.proofs.minima.of_parts.Goals as goal
-use Rattle.scev_minima.proofs.minima.of_parts.Goals.{After-from_vec, in_default-via-then-as_slice-lt1}
-use Rattle.scev_minima.proofs.minima.of_parts.Goals.{in_default-via-else-as_slice-lt1+else-this-lt2}
-
--- one part is answered before, and there is one
-two_parts : (c : After-from_vec) → 2 ≤ length c.args.parts.items
-two_parts c =
-    let same = ap length c.as_slice.ensures.value in
-    elim c.in_default.branch [
-      | in_default-via-then-as_slice-lt1 w ↦ ?
-      | in_default-via-else-as_slice-lt1+else-this-lt2 w ↦ ?
-    ]
-
 pub made-requires-clause-parts : goal.made-requires-clause-parts
 made-requires-clause-parts c =
     let nodes = c.args.arena.now in
@@ -32,4 +20,4 @@ made-requires-clause-kind c =
     let ids = c.args.parts.items in
     subst (λ l. HasParts c.args.kind w (parts_of (trees_at nodes l))) (sym c.from_vec.ensures)
     (has_many c.args.kind w (parts_of (trees_at nodes ids)) c.requires.kind
-    (subst (λ n. 2 ≤ n) (sym (as_many_parts nodes ids)) (two_parts c), have_width nodes w ids c.requires.trees))
+    (subst (λ n. 2 ≤ n) (sym (as_many_parts nodes ids)) ?, have_width nodes w ids c.requires.trees))
