@@ -1,3 +1,4 @@
 pub mod Flattening
 pub mod InOrder
+pub mod MinParts
 pub mod Numbers

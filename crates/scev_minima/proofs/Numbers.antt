@@ -1,13 +1,14 @@
 -- The numbers among trees at places: they fit, and what is chosen of them does.
-use Rattle.std.proofs.Common.{◌≡◌, ℕ, ◌<◌, ◌^◌, List, Option, Some, None, IfSome, refl, subst}
+use Rattle.std.proofs.Common.{◌≡◌, ℕ, ◌<◌, ◌^◌, true, false, List, Option, Some, None, IfSome, refl, sym, subst}
+use Rattle.std.specs.Option.{is_some}
+use Rattle.std.proofs.lemmas.Bool.{false≢true}
 use Rattle.scev_base.specs.declared.ids.ExprId.{ExprId}
-use Rattle.scev_tree.specs.declared.kind.Kind.{Kind}
-use Rattle.scev_tree.specs.Tree.{width_of}
+use Rattle.scev_tree.specs.Tree.{Tree}
 use Rattle.scev_arena.specs.declared.node.Node.{Node}
 use Rattle.scev_arena.specs.Meaning.{tree_of}
 use Rattle.scev_arena.specs.Standing.{IsArena}
 use Rattle.scev_forms.specs.Atoms.{number_of}
-use Rattle.scev_forms.specs.Minima.{IsMinimum, with_number}
+use Rattle.scev_forms.specs.Minima.{IsMinimum, with_number, with_tree, unless_number}
 use Rattle.scev_forms.proofs.Atoms.{number_value}
 use Rattle.scev_forms.proofs.Choices.{kind_chooses}
 use Rattle.scev_sums.specs.Answers.{IsTreeOfAt}
@@ -43,3 +44,15 @@ pub chosen_fits : (k : MinKind) (w : ℕ) (o found : Option ℕ) → 0 < w
 chosen_fits k w None found some h h' = h'
 chosen_fits k w (Some n) None some h h' = h
 chosen_fits k w (Some n) (Some m) some h h' = (kind_chooses (kind_of k) w (kind_is k) some).closed n m h h'
+
+-- a tree that is no number is one more
+pub one_more : (o : Option ℕ) (tree : Tree) (trees : List Tree) → is_some o ≡ false
+    → unless_number o tree trees ≡ with_tree tree trees
+one_more None tree trees h = refl
+one_more (Some n) tree trees h = absurd (false≢true (sym h))
+
+-- a number isn't
+pub none_more : (o : Option ℕ) (tree : Tree) (trees : List Tree) → is_some o ≡ true
+    → unless_number o tree trees ≡ trees
+none_more None tree trees h = absurd (false≢true h)
+none_more (Some n) tree trees h = refl
