@@ -10,7 +10,7 @@ use Rattle.scev_sums.proofs.Placing.{tree_within}
 use Rattle.scev_minima.proofs.InOrder.{drop_before}
 use Rattle.scev_minima.proofs.Numbers.{one_more, none_more}
 use Rattle.scev_minima.proofs.minima.no_numbers.Goals as goal
-use Rattle.scev_minima.proofs.minima.no_numbers.Goals.{After-is_none, After-number_of-arg-1}
+use Rattle.scev_minima.proofs.minima.no_numbers.Goals.{After-is_none}
 
 pub loop-i-init : goal.loop-i-init
 loop-i-init c =
@@ -20,18 +20,15 @@ loop-i-init c =
     (sym c.new-found.ensures.items)
     (tt, sym (ap (λ l. forms.no_numbers (trees_at nodes l)) (drop-length c.args.ids.now)))
 
--- a tree stands there
-within : (c : After-number_of-arg-1) → IsTreeOfAt c.args.arena.now c.args.w.bits
-    (get_or c.args.ids.now (c.loop-i.i - 1) (record { 0 = 0 }))
-within c =
-    tree_within c.args.arena.now c.args.w.bits c.args.ids.now (c.loop-i.i - 1) (record { 0 = 0 }) c.requires
-    (omega arith)
-
 pub number_of-requires : goal.number_of-requires
-number_of-requires c = (within c).0
+number_of-requires c =
+    (tree_within c.args.arena.now c.args.w.bits c.args.ids.now (c.loop-i.i - 1) (record { 0 = 0 }) c.requires
+    (omega arith)).0
 
 pub with_tree-requires-clause-tree : goal.with_tree-requires-clause-tree
-with_tree-requires-clause-tree c = within (goal.at.with_tree-requires-clause-tree c).After-number_of-arg-1
+with_tree-requires-clause-tree c =
+    tree_within c.args.arena.now c.args.w.bits c.args.ids.now (c.loop-i.i - 1) (record { 0 = 0 }) c.requires
+    (omega arith)
 
 pub with_tree-requires-clause-trees : goal.with_tree-requires-clause-trees
 with_tree-requires-clause-trees c =
