@@ -1,4 +1,5 @@
 pub mod Flattening
 pub mod InOrder
 pub mod MinParts
+pub mod Minimum
 pub mod Numbers
