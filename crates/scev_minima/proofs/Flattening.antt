@@ -1,6 +1,6 @@
 -- The parts that an atom gives where it is of the kind, as they are read.
-use Rattle.std.proofs.Common.{◌≡◌, ℕ, ◌≤◌, true, false, ◌==◌, if◌then◌else◌, List, [], ◌∷◌, length, Option, Some}
-use Rattle.std.proofs.Common.{slice_get, refl, sym, ap, ◌∙◌, subst, arith}
+use Rattle.std.proofs.Common.{◌≡◌, ℕ, ◌≤◌, true, ◌==◌, if◌then◌else◌, List, [], ◌∷◌, Option, Some}
+use Rattle.std.proofs.Common.{slice_get, refl, sym, ap, ◌∙◌, subst}
 use Rattle.std.proofs.lemmas.Bool.{false≢true}
 use Rattle.scev_base.specs.declared.ids.ExprId.{ExprId}
 use Rattle.scev_tree.specs.declared.kind.Kind.{Kind}
@@ -14,10 +14,8 @@ use Rattle.scev_arena.specs.Meaning.{tree_of, atom_of}
 use Rattle.scev_arena.specs.Nodes.{same_kind}
 use Rattle.scev_arena.specs.Standing.{HoldsAtom, IsAtomAt, AreTrees}
 use Rattle.scev_forms.specs.Atoms.{alone}
-use Rattle.scev_forms.specs.Minima.{IsMinimum, flat_parts, flattened}
-use Rattle.scev_forms.proofs.Flat.{TakesMany}
+use Rattle.scev_forms.specs.Minima.{flat_parts, flattened}
 use Rattle.scev_sums.specs.Answers.{IsTreeOfAt, AreTreesOfAt, trees_at}
-use Rattle.scev_sums.proofs.Held.{as_many_parts}
 use Rattle.scev_sums.proofs.RecParts.{trees_again, wide_parts}
 use Rattle.scev_minima.specs.Kinds.{IsFlattened}
 

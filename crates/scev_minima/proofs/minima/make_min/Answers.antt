@@ -3,7 +3,7 @@ use Rattle.scev_tree.specs.Tree as tree
 use Rattle.scev_arena.specs.Meaning.{tree_of}
 use Rattle.scev_forms.specs.Minima as forms
 use Rattle.scev_forms.specs.Minima.{tree_minimum}
-use Rattle.scev_sums.specs.Answers.{IsAt, AreTreesOfAt, IsTreeOfAt, trees_at, Tells}
+use Rattle.scev_sums.specs.Answers.{IsAt, AreTreesOfAt, trees_at, Tells}
 use Rattle.scev_sums.proofs.Placing.{both_hold}
 use Rattle.scev_minima.specs.Kinds.{kind_of}
 use Rattle.scev_minima.proofs.Minimum.{all_trees, parts_same, some_parts, minimum_told}

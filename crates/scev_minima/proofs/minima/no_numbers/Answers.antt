@@ -1,11 +1,8 @@
-use Rattle.std.proofs.Common.{◌≡◌, ◌-◌, [], List, get_or, drop, length, sym, ap, ◌∙◌, subst, arith}
+use Rattle.std.proofs.Common.{◌≡◌, ◌-◌, get_or, drop, length, sym, ap, ◌∙◌, subst, arith}
 use Rattle.std.proofs.Math.Seq.{drop-length}
-use Rattle.scev_base.specs.declared.ids.ExprId.{ExprId}
-use Rattle.scev_tree.specs.Tree.{Tree}
 use Rattle.scev_arena.specs.Meaning.{tree_of}
-use Rattle.scev_forms.specs.Atoms.{number_of}
 use Rattle.scev_forms.specs.Minima as forms
-use Rattle.scev_sums.specs.Answers.{IsTreeOfAt, AreTreesOfAt, AreAt, trees_at}
+use Rattle.scev_sums.specs.Answers.{AreTreesOfAt, AreAt, trees_at}
 use Rattle.scev_sums.proofs.Placing.{tree_within}
 use Rattle.scev_minima.proofs.InOrder.{drop_before}
 use Rattle.scev_minima.proofs.Numbers.{one_more, none_more}

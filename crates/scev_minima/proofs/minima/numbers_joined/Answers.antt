@@ -1,10 +1,9 @@
-use Rattle.std.proofs.Common.{◌≡◌, ◌-◌, ℕ, ◌+◌, ◌<◌, ◌^◌, get_or, drop, IfSome, sym, ap, ◌∙◌, subst, arith}
+use Rattle.std.proofs.Common.{◌≡◌, ◌-◌, ◌<◌, ◌^◌, get_or, drop, IfSome, sym, ap, ◌∙◌, subst, arith}
 use Rattle.std.proofs.Math.Seq.{drop-length}
-use Rattle.scev_base.specs.declared.ids.ExprId.{ExprId}
 use Rattle.scev_arena.specs.Meaning.{tree_of}
 use Rattle.scev_forms.specs.Atoms.{number_of}
 use Rattle.scev_forms.specs.Minima as forms
-use Rattle.scev_sums.specs.Answers.{IsTreeOfAt, trees_at}
+use Rattle.scev_sums.specs.Answers.{trees_at}
 use Rattle.scev_sums.proofs.Placing.{tree_within}
 use Rattle.scev_minima.specs.Kinds.{kind_of}
 use Rattle.scev_minima.proofs.InOrder.{drop_before}
