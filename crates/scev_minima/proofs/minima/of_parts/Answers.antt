@@ -3,9 +3,10 @@ use Rattle.scev_base.specs.declared.ids.ExprId.{ExprId}
 use Rattle.scev_tree.specs.Tree.{parts_of}
 use Rattle.scev_tree.specs.Canonical.{HasParts}
 use Rattle.scev_arena.specs.Standing.{AreTrees}
+use Rattle.scev_forms.proofs.Flat.{has_many}
 use Rattle.scev_sums.specs.Answers.{trees_at}
 use Rattle.scev_sums.proofs.Held.{are_trees, have_width, as_many_parts}
-use Rattle.scev_minima.proofs.Flattening.{has_many}
+use Rattle.scev_minima.proofs.Flattening.{takes_many}
 use Rattle.scev_minima.proofs.minima.of_parts.Goals as goal
 -- there is one, and not one alone
 two_or_more : (ids : List ExprId) → (ids ≡ [] → ⊥) → (length ids ≡ 1 → ⊥) → 2 ≤ length ids
@@ -26,5 +27,5 @@ made-requires-clause-kind c =
     let many = two_or_more ids c.requires.some
     (λ one. c.if-len-eq1.false (omega (arith, c.len.ensures, c.args.parts.ok.0, one))) in
     subst (λ l. HasParts c.args.kind w (parts_of (trees_at nodes l))) (sym c.from_vec.ensures)
-    (has_many c.args.kind w (parts_of (trees_at nodes ids)) c.requires.kind
+    (has_many c.args.kind w (parts_of (trees_at nodes ids)) (takes_many c.args.kind c.requires.kind)
     (subst (λ n. 2 ≤ n) (sym (as_many_parts nodes ids)) many, have_width nodes w ids c.requires.trees))
