@@ -40,7 +40,7 @@ with_tree_are_trees w tree (other ∷ trees) is h =
     (λ _. (is, h)))
 
 -- the trees that are no numbers
-pub no_numbers_are_trees : (w : ℕ) (trees : List Tree) → AreTreesOf w trees → AreTreesOf w (no_numbers trees)
+no_numbers_are_trees : (w : ℕ) (trees : List Tree) → AreTreesOf w trees → AreTreesOf w (no_numbers trees)
 no_numbers_are_trees w [] h = tt
 no_numbers_are_trees w (tree ∷ trees) h =
     let others = no_numbers_are_trees w trees h.1 in

@@ -1,12 +1,12 @@
 -- The parts that an atom gives where it is of the kind, as they are read.
-use Rattle.std.proofs.Common.{◌≡◌, ℕ, ◌≤◌, true, false, ◌==◌, if◌then◌else◌, List, [], ◌∷◌, length, Option, Some}
-use Rattle.std.proofs.Common.{slice_get, refl, sym, ap, ◌∙◌, subst, arith}
-use Rattle.std.proofs.lemmas.Bool.{false≢true}
+use Rattle.std.proofs.Common.{◌≡◌, ℕ, true, ◌==◌, if◌then◌else◌, List, [], ◌∷◌, Option, Some}
+use Rattle.std.proofs.Common.{slice_get, refl, sym, ap, ◌∙◌, subst}
+use Rattle.std.proofs.lemmas.Bool.{eqb-true}
 use Rattle.scev_base.specs.declared.ids.ExprId.{ExprId}
 use Rattle.scev_tree.specs.declared.kind.Kind.{Kind}
 use Rattle.scev_tree.specs.declared.kind.Kind.TheVariants as kind
-use Rattle.scev_tree.specs.Tree.{Parts, atom, parts_of, width_of}
-use Rattle.scev_tree.specs.Order.{rank, count_parts}
+use Rattle.scev_tree.specs.Tree.{atom, parts_of, width_of}
+use Rattle.scev_tree.specs.Order.{rank}
 use Rattle.scev_tree.specs.Canonical.{HasParts, HaveWidth}
 use Rattle.scev_arena.specs.declared.node.Node.{Node}
 use Rattle.scev_arena.specs.declared.node.Node.TheVariants as node
@@ -14,36 +14,20 @@ use Rattle.scev_arena.specs.Meaning.{tree_of, atom_of}
 use Rattle.scev_arena.specs.Nodes.{same_kind}
 use Rattle.scev_arena.specs.Standing.{HoldsAtom, IsAtomAt, AreTrees}
 use Rattle.scev_forms.specs.Atoms.{alone}
-use Rattle.scev_forms.specs.Minima.{IsMinimum, flat_parts, flattened}
-use Rattle.scev_forms.proofs.Flat.{TakesMany}
+use Rattle.scev_forms.specs.Minima.{flat_parts, flattened}
+use Rattle.scev_forms.proofs.Flat.{TakesMany, many_parts, same_rank}
 use Rattle.scev_sums.specs.Answers.{IsTreeOfAt, AreTreesOfAt, trees_at}
-use Rattle.scev_sums.proofs.Held.{as_many_parts}
 use Rattle.scev_sums.proofs.RecParts.{trees_again, wide_parts}
 use Rattle.scev_minima.specs.Kinds.{IsFlattened}
 
--- an atom of a kind that takes in others has two parts or more, of its width
-many_parts : (k : Kind) (w : ℕ) (parts : Parts)
-    → IsFlattened k
-    → HasParts k w parts
-    → (2 ≤ count_parts parts) × HaveWidth w parts
-many_parts kind.Smax w parts is has = has
-many_parts kind.Umax w parts is has = has
-many_parts kind.Smin w parts is has = has
-many_parts kind.Umin w parts is has = has
-many_parts kind.Seq w parts is has = has
-many_parts _ w parts is has = absurd is
-
--- and any such
-pub has_many : (k : Kind) (w : ℕ) (parts : Parts)
-    → IsFlattened k
-    → (2 ≤ count_parts parts) × HaveWidth w parts
-    → HasParts k w parts
-has_many kind.Smax w parts is has = has
-has_many kind.Umax w parts is has = has
-has_many kind.Smin w parts is has = has
-has_many kind.Umin w parts is has = has
-has_many kind.Seq w parts is has = has
-has_many _ w parts is has = absurd is
+-- a kind whose atoms take in others takes many parts
+pub takes_many : (k : Kind) → IsFlattened k → TakesMany k
+takes_many kind.Seq is = tt
+takes_many kind.Smax is = tt
+takes_many kind.Umax is = tt
+takes_many kind.Smin is = tt
+takes_many kind.Umin is = tt
+takes_many _ is = absurd is
 
 -- a kind is such a one where its rank is
 pub same_by_rank : (inner k : Kind) → IsFlattened k → same_kind inner k ≡ (rank inner == rank k)
@@ -61,17 +45,8 @@ same_by_rank inner _ is = absurd is
 
 -- and then it is that
 pub one_kind : (inner k : Kind) → IsFlattened k → same_kind inner k ≡ true → inner ≡ k
-one_kind kind.Smax kind.Smax is h = refl
-one_kind _ kind.Smax is h = absurd (false≢true h)
-one_kind kind.Umax kind.Umax is h = refl
-one_kind _ kind.Umax is h = absurd (false≢true h)
-one_kind kind.Smin kind.Smin is h = refl
-one_kind _ kind.Smin is h = absurd (false≢true h)
-one_kind kind.Umin kind.Umin is h = refl
-one_kind _ kind.Umin is h = absurd (false≢true h)
-one_kind kind.Seq kind.Seq is h = refl
-one_kind _ kind.Seq is h = absurd (false≢true h)
-one_kind inner _ is h = absurd is
+one_kind inner k is h =
+    same_rank k inner (takes_many k is) (eqb-true (rank inner) (rank k) (sym (same_by_rank inner k is) ∙ h))
 
 -- an atom has one width
 one_atom_width : (v w : ℕ) (o : Option Node) → HoldsAtom v o → HoldsAtom w o → v ≡ w
@@ -102,6 +77,6 @@ module _ (nodes : List Node) (k : Kind) (id place : ExprId) (inner : Kind) (v : 
   flat_trees w flat same wide there there' trees has =
       let width : v ≡ w = one_atom_width v (width_of (tree_of nodes id)) (slice_get nodes place.0) there' there
       ∙ wide.1 in
-      let many = many_parts k v (parts_of (trees_at nodes parts)) flat
+      let many = many_parts k v (parts_of (trees_at nodes parts)) (takes_many k flat)
       (subst (λ x. HasParts x v (parts_of (trees_at nodes parts))) same has) in
       wide_parts nodes w parts trees (subst (λ x. HaveWidth x (parts_of (trees_at nodes parts))) width many.1)

@@ -1,6 +1,6 @@
 -- One more tree among some, each once and in order: those that are lower go before it.
-use Rattle.std.proofs.Common.{◌≡◌, ℕ, zero, suc, ◌-◌, true, false, List, [], ◌∷◌, ◌++◌, length, take, drop}
-use Rattle.std.proofs.Common.{refl, sym, ap, ◌∙◌, subst, append_assoc}
+use Rattle.std.proofs.Common.{◌≡◌, ℕ, zero, suc, ◌+◌, ◌-◌, ◌<◌, ◌≤◌, true, false, List, [], ◌∷◌, ◌++◌}
+use Rattle.std.proofs.Common.{length, get_or, take, drop, refl, sym, ap, ◌∙◌, subst, append_assoc, arith}
 use Rattle.std.proofs.Math.Seq.{take-length}
 use Rattle.std.proofs.lemmas.List.{map-append, length-drop}
 use Rattle.std.proofs.lemmas.Bool.{false_from_ne_true}
@@ -13,7 +13,7 @@ use Rattle.scev_arena.specs.Meaning.{tree_of}
 use Rattle.scev_forms.specs.Sums.{same_tree}
 use Rattle.scev_forms.specs.Minima.{with_tree}
 use Rattle.scev_sums.specs.Answers.{IsTreeOfAt, AreTreesOfAt, AreAt, trees_at}
-use Rattle.scev_sums.proofs.Placing.{both_hold}
+use Rattle.scev_sums.proofs.Placing.{both_hold, drop_next}
 
 -- ---- trees
 
@@ -62,6 +62,13 @@ pub trees_left : (nodes : List Node) (w i : ℕ) (ids : List ExprId) → AreTree
 trees_left nodes w zero ids h = h
 trees_left nodes w (suc i) [] h = tt
 trees_left nodes w (suc i) (id ∷ ids) h = trees_left nodes w i ids h.1
+
+-- what is left before a place begins with the item there
+pub drop_before : {A : Type 0} (xs : List A) (i : ℕ) (other : A) → 0 < i → i ≤ length xs
+    → drop (i - 1) xs ≡ get_or xs (i - 1) other ∷ drop i xs
+drop_before xs i other some within =
+    let next : i - 1 + 1 ≡ i = omega arith in
+    drop_next xs (i - 1) other (omega arith) ∙ ap (λ k. get_or xs (i - 1) other ∷ drop k xs) next
 
 -- a slice from a place on is what is left
 pub all_left : (ids : List ExprId) (i : ℕ) → take (length ids - i) (drop i ids) ≡ drop i ids

@@ -1,11 +1,10 @@
 //! Minima and maxima of expressions.
 
-ghost use Rattle.std.specs.Prelude.{◌≡◌, ℕ, ◌<◌, ◌^◌, ◌++◌, ◌∷◌, [], List, IfOk, IfSome, Option};
+ghost use Rattle.std.specs.Prelude.{◌≡◌, ◌<◌, ◌^◌, [], IfOk, IfSome};
 ghost use Rattle.scev_tree.specs.Tree as tree;
 ghost use Rattle.scev_tree.specs.Value as value;
 ghost use Rattle.scev_arena.specs.Meaning.{tree_of};
 ghost use Rattle.scev_arena.specs.Standing.{IsTreeAt};
-ghost use Rattle.scev_forms.specs.Atoms as atoms;
 ghost use Rattle.scev_forms.specs.Minima as forms;
 ghost use Rattle.scev_sums.specs.Answers.{GoesOn, IsAt, AreAt, IsTreeOfAt, AreTreesOfAt, trees_at, Tells};
 ghost use Rattle.scev_sums.specs.Values.{HasValue, value_at};
@@ -15,7 +14,7 @@ use crate::flat::flattened;
 use crate::kinds::MinKind;
 use scev_arena::Arena;
 use scev_base::{ExprId, LoopNest, Width};
-use scev_sums::{FoldError, constant, made, push};
+use scev_sums::{FoldError, constant, made};
 use scev_tree::Kind;
 use scev_walk::{compare, number_of, width};
 use sqlite_items::Items;
@@ -177,8 +176,9 @@ pub(crate) fn of_parts(
     ensures tree { Tells (IsAt arena.new w.bits)
         (forms.of_parts kind w.bits (trees_at arena.old parts.items)) result }
 {
-    match parts.as_slice() {
-        [only] => Ok(*only),
-        _ => made(alloc, arena, kind, w, Items::from_vec(parts)),
+    if parts.len() == 1 {
+        Ok(parts[0])
+    } else {
+        made(alloc, arena, kind, w, Items::from_vec(parts))
     }
 }

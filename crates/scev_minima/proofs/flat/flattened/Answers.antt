@@ -23,4 +23,5 @@ returns-then-eq-clause-trees c =
     subst (AreTreesOfAt nodes c.args.w.bits) (sym c.in_ok-from_slice.ensures.items)
     (flat_trees nodes c.args.kind c.args.id c.in-Some.atom inner c.atom_at-inner.result.1.bits
     c.atom_at-inner.result.2.now c.in-Some.ensures.atom read.is c.args.w.bits c.requires.kind
-    (one_kind inner c.args.kind c.requires.kind (sym same)) c.requires.tree c.in-Some.ensures.place read.width read.trees read.parts)
+    (one_kind inner c.args.kind c.requires.kind (sym same)) c.requires.tree c.in-Some.ensures.place read.width
+    read.trees read.parts)

@@ -1,7 +1,6 @@
-use Rattle.std.proofs.Common.{◌≡◌, ◌++◌, ◌<◌, ◌^◌, drop, IfSome}
-use Rattle.scev_arena.specs.Meaning.{tree_of}
+use Rattle.std.proofs.Common.{◌≡◌, ◌<◌, ◌^◌, drop, IfSome}
 use Rattle.scev_forms.specs.Minima as forms
-use Rattle.scev_sums.specs.Answers.{AreAt, AreTreesOfAt, trees_at}
+use Rattle.scev_sums.specs.Answers.{trees_at}
 use Rattle.scev_minima.specs.Kinds.{kind_of}
 use Rattle.scev_minima.proofs.minima.numbers_joined.Given as goal
 
