@@ -1,7 +1,7 @@
 -- The parts of quotients.
-use Rattle.std.proofs.Common.{◌≡◌, ℕ, ◌*◌, ◌%◌, ◌^◌, ◌<◌, ◌≤◌, nat_lt, true, if◌then◌else◌, inl, inr}
-use Rattle.std.proofs.Common.{List, [], ◌∷◌, length, map, None, Some, refl, ap, sym, ◌∙◌, arith}
-use Rattle.std.proofs.lemmas.Bool.{lt-ltb, le-ltb, cases_lt}
+use Rattle.std.proofs.Common.{◌≡◌, ℕ, ◌*◌, ◌/◌, ◌%◌, ◌^◌, ◌<◌, ◌≤◌, ◌==◌, nat_lt, Bool, true, false, if◌then◌else◌, inl, inr}
+use Rattle.std.proofs.Common.{List, [], ◌∷◌, length, map, None, Some, refl, sym, ap, ap₂, ◌∙◌, arith}
+use Rattle.std.proofs.lemmas.Bool.{lt-ltb, le-ltb, cases_lt, eq-eqb, ne_eqb}
 use Rattle.std.proofs.lemmas.List.{length-map}
 use Rattle.std.proofs.Math.Nat.{mod-eq_of_lt}
 use Rattle.scev_base.specs.declared.ids.ExprId.{ExprId}
@@ -11,8 +11,8 @@ use Rattle.scev_tree.specs.Tree.{Tree, atom, parts_of, constant}
 use Rattle.scev_arena.specs.declared.node.Node.{Node}
 use Rattle.scev_arena.specs.Meaning.{tree_of, atom_of}
 use Rattle.scev_forms.specs.Outcome.{Done}
-use Rattle.scev_forms.specs.Atoms.{alone, made}
-use Rattle.scev_forms.specs.Quotients.{by_both}
+use Rattle.scev_forms.specs.Atoms.{number_of, alone, made}
+use Rattle.scev_forms.specs.Quotients.{by_both, atom_quotient, quotient_by, tree_quotient}
 use Rattle.scev_sums.specs.Answers.{GoesOn, IsTreeOfAt}
 use Rattle.scev_sums.proofs.Growth.{same_tree_goes_on}
 use Rattle.scev_minima.specs.Quotients.{quotient_parts}
@@ -73,3 +73,41 @@ greater w both low is other =
       | inl less ↦ absurd (other (is ∙ mod-eq_of_lt less))
       | inr great ↦ great
     ]
+
+-- ---- by the numbers that two trees are
+
+module _ (w : ℕ) (left right : Tree) where
+  pub by_no_number : number_of right ≡ None → made kind.Udiv w (left ∷ right ∷ []) ≡ tree_quotient w left right
+  unfolding tree_quotient
+  by_no_number none = sym (ap (quotient_by w left right (number_of left)) none)
+
+  module _ (n : ℕ) (number : number_of right ≡ Some n) where
+    module _ (m : ℕ) (over : number_of left ≡ Some m) where
+      -- whether the divisor is 0
+      by_test : (b : Bool) → (n == 0) ≡ b
+          → tree_quotient w left right ≡ (if b then made kind.Udiv w (left ∷ right ∷ []) else Done (constant w (m / n)))
+      unfolding tree_quotient
+      by_test b is =
+          ap₂ (quotient_by w left right) over number
+          ∙ ap (λ b. if b then made kind.Udiv w (left ∷ right ∷ []) else Done (constant w (m / n))) is
+
+      pub of_numbers : 0 < n → tree_quotient w left right ≡ Done (constant w (m / n))
+      of_numbers some = by_test false (ne_eqb n 0 (λ none. omega arith))
+
+      pub by_zero : n ≡ 0 → made kind.Udiv w (left ∷ right ∷ []) ≡ tree_quotient w left right
+      by_zero none = sym (by_test true (eq-eqb n 0 none))
+
+    module _ (other : number_of left ≡ None) where
+      -- whether it is 1
+      once_test : (b : Bool) → (n == 1) ≡ b
+          → tree_quotient w left right ≡ (if b then Done left else atom_quotient w left right n (alone left))
+      unfolding tree_quotient
+      once_test b is =
+          ap₂ (quotient_by w left right) other number
+          ∙ ap (λ b. if b then Done left else atom_quotient w left right n (alone left)) is
+
+      pub by_one : n ≡ 1 → tree_quotient w left right ≡ Done left
+      by_one one = once_test true (eq-eqb n 1 one)
+
+      pub by_many : (n ≡ 1 → ⊥) → atom_quotient w left right n (alone left) ≡ tree_quotient w left right
+      by_many many = sym (once_test false (ne_eqb n 1 many))
