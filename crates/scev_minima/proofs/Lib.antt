@@ -1,2 +1,3 @@
 pub mod Divided
 pub mod Valued
+pub mod Backwards
