@@ -1,3 +1,4 @@
 pub mod Divided
 pub mod Valued
 pub mod Backwards
+pub mod Joined
