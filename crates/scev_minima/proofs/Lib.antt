@@ -4,3 +4,6 @@ pub mod MinParts
 pub mod Minimum
 pub mod Numbers
 pub mod Divided
+pub mod Valued
+pub mod Backwards
+pub mod Joined

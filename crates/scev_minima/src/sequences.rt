@@ -10,7 +10,7 @@ ghost use Rattle.scev_forms.specs.Atoms as atoms;
 ghost use Rattle.scev_forms.specs.Minima as forms;
 ghost use Rattle.scev_sums.specs.Answers.{GoesOn, IsAt, AreAt, IsTreeOfAt, AreTreesOfAt, trees_at, Tells};
 ghost use Rattle.scev_sums.specs.Values.{HasValue, value_at};
-ghost use Rattle.scev_minima.specs.Sequences.{reversed};
+ghost use Rattle.scev_minima.specs.Sequences.{reversed, first_number};
 
 use crate::flat::flattened;
 use crate::minima::of_parts;
@@ -111,6 +111,7 @@ fn put_before(
         ≡ forms.tree_before w.bits (tree_of arena.old id) (atoms.number_of (tree_of arena.old id))
         (reversed (trees_at arena.old found.old.items))) }
 {
+    let _ = arena.len();
     let mut before = id;
     if let Some(m) = last_number(arena, w, found) {
         if let Some(n) = number_of(arena, id) {
@@ -124,6 +125,7 @@ fn put_before(
 /// The number that the last of some trees is, if it is one.
 fn last_number(arena: &Arena, w: Width, ids: &[ExprId]) -> Option<u64>
     requires { AreTreesOfAt arena.now w.bits ids.now }
+    ensures { result ≡ first_number (reversed (trees_at arena.now ids.now)) }
 {
     let _ = w;
     number_of(arena, *ids.last()?)
