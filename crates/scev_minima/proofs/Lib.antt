@@ -2,3 +2,4 @@ pub mod Divided
 pub mod Valued
 pub mod Backwards
 pub mod Joined
+pub mod FromZero
