@@ -3,3 +3,4 @@ pub mod Valued
 pub mod Backwards
 pub mod Joined
 pub mod FromZero
+pub mod FirstOnes
