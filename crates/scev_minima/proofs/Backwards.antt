@@ -7,7 +7,8 @@ use Rattle.std.proofs.lemmas.Option.{slice_get_within, slice_get-get_or}
 use Rattle.scev_base.specs.declared.ids.ExprId.{ExprId}
 use Rattle.scev_arena.specs.declared.node.Node.{Node}
 use Rattle.scev_arena.specs.Meaning.{tree_of}
-use Rattle.scev_sums.specs.Answers.{trees_at}
+use Rattle.scev_sums.specs.Answers.{AreTreesOfAt, trees_at}
+use Rattle.scev_sums.proofs.Held.{trees_and_last}
 use Rattle.scev_minima.specs.Sequences.{reversed}
 
 module _ {A : Type 0} where
@@ -50,3 +51,13 @@ module _ (nodes : List Node) where
       → reversed (trees_at nodes ids) ≡ tree_of nodes id ∷ reversed (trees_at nodes (take (length ids - 1) ids))
   last_of ids id is =
       ap (λ l. reversed (trees_at nodes l)) (split_last ids id is) ∙ last_first (take (length ids - 1) ids) id
+
+  -- turned around, they are the trees of the places that are
+  pub trees_turned : (ids : List ExprId) → trees_at nodes (reversed ids) ≡ reversed (trees_at nodes ids)
+  trees_turned [] = refl
+  trees_turned (id ∷ ids) =
+      map_push (tree_of nodes) (reversed ids) id ∙ ap (λ l. l ++ tree_of nodes id ∷ []) (trees_turned ids)
+
+  pub turned_held : (w : ℕ) (ids : List ExprId) → AreTreesOfAt nodes w ids → AreTreesOfAt nodes w (reversed ids)
+  turned_held w [] h = tt
+  turned_held w (id ∷ ids) h = trees_and_last nodes w (reversed ids) id (turned_held w ids h.1) h.0
