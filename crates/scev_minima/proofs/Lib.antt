@@ -4,3 +4,4 @@ pub mod Backwards
 pub mod Joined
 pub mod FromZero
 pub mod FirstOnes
+pub mod SequenceParts
