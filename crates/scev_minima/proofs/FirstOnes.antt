@@ -1,6 +1,6 @@
 -- Trees at places, each where it stands for the first time.
 use Rattle.std.proofs.Common.{◌≡◌, ℕ, ◌+◌, ◌<◌, ◌≤◌, Bool, true, false, ◌||◌, eqb, if◌then◌else◌}
-use Rattle.std.proofs.Common.{List, [], ◌∷◌, ◌++◌, length, map, drop, refl, sym, ap, ◌∙◌, subst, append_assoc}
+use Rattle.std.proofs.Common.{List, [], ◌∷◌, ◌++◌, length, drop, refl, sym, ap, ◌∙◌, subst, append_assoc}
 use Rattle.std.specs.Bool.{Decides}
 use Rattle.std.specs.List.{list_any}
 use Rattle.std.proofs.lemmas.Bool.Decides.{Decides-eqb, same_from_decides}
@@ -31,6 +31,7 @@ swapped true true c = refl
 swapped true false c = refl
 swapped false b c = refl
 
+-- with one more at the end
 among_last : (tree : Tree) (trees : List Tree) (last : Tree)
     → is_among tree (trees ++ last ∷ []) ≡ (if same_tree tree last then true else is_among tree trees)
 among_last tree [] last = refl
@@ -66,12 +67,14 @@ module _ (nodes : List Node) (arena : IsArena nodes) (w : ℕ) (id : ExprId) (h 
             (same_itself code)),
       )
 
+  -- so both tests are one
   same_place : (other : ExprId) → IsTreeOfAt nodes w other
       → same_tree (tree_of nodes id) (tree_of nodes other) ≡ eqb other.0 id.0
   same_place other k =
       same_from_decides (same_tree (tree_of nodes id) (tree_of nodes other)) (eqb other.0 id.0)
       (place_decides other k) (Decides-eqb other.0 id.0)
 
+  -- among the trees at places
   among_places : (ids : List ExprId) → AreTreesOfAt nodes w ids
       → is_among (tree_of nodes id) (trees_at nodes ids) ≡ list_any (λ x. eqb x.0 id.0) ids
   among_places [] ks = refl
@@ -94,6 +97,7 @@ module _ (nodes : List Node) where
       trees_at nodes found ++ first_ones (reversed (trees_at nodes found)) (trees_at nodes left)
 
   module _ (found ids : List ExprId) (at : ℕ) (within : at < length ids) where
+    -- the tree that is looked at, those found before it, and those behind it
     abbrev here : Tree
     here = tree_of nodes (id_at ids at)
 
@@ -103,6 +107,7 @@ module _ (nodes : List Node) where
     abbrev rest : List Tree
     rest = trees_at nodes (drop (at + 1) ids)
 
+    -- a new tree is found
     pub ones_more : is_among here before ≡ false
         → ones_with (found ++ id_at ids at ∷ []) (drop (at + 1) ids) ≡ ones_with found (drop at ids)
     ones_more new =
@@ -113,6 +118,7 @@ module _ (nodes : List Node) where
         (if b then first_ones before rest else here ∷ first_ones (here ∷ before) rest)) (sym new)
         ∙ sym (at_drop_more (ones_with found) ids at (record { 0 = 0 }) within)
 
+    -- one that is among those found isn't
     pub ones_without : is_among here before ≡ true
         → ones_with found (drop (at + 1) ids) ≡ ones_with found (drop at ids)
     ones_without old =
@@ -120,6 +126,7 @@ module _ (nodes : List Node) where
         (if b then first_ones before rest else here ∷ first_ones (here ∷ before) rest)) (sym old)
         ∙ sym (at_drop_more (ones_with found) ids at (record { 0 = 0 }) within)
 
+  -- all are found
   pub ones_whole : (found ids : List ExprId) (at : ℕ) → length ids ≤ at
       → trees_at nodes found ≡ ones_with found (drop at ids)
   ones_whole found ids at past =

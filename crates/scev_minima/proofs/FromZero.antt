@@ -1,5 +1,5 @@
 -- A first tree that is 0 is alone.
-use Rattle.std.proofs.Common.{◌≡◌, ℕ, ◌<◌, ◌≤◌, true, false, if◌then◌else◌, eqb, List, [], ◌∷◌, length, map, get_or}
+use Rattle.std.proofs.Common.{◌≡◌, ℕ, ◌≤◌, true, if◌then◌else◌, eqb, List, [], ◌∷◌, length, get_or}
 use Rattle.std.proofs.Common.{Option, None, Some, refl, sym, ap, ◌∙◌, subst, arith}
 use Rattle.std.proofs.lemmas.Bool.{eqb-true}
 use Rattle.std.specs.Option.{option_eq}
@@ -22,11 +22,6 @@ zero_is (polynomial w (term no_factors n no_terms)) canonical e =
     let none : n ≡ 0 = cc e in
     absurd (omega (arith, canonical.2))
 zero_is (polynomial w _) canonical e = absurd cc
-
--- and one that isn't
-not_zero : (tree : Tree) → (number_of tree ≡ Some 0 → ⊥) → is_zero tree ≡ false
-not_zero (polynomial w no_terms) other = absurd (other refl)
-not_zero (polynomial w _) other = refl
 
 -- a number that is found by its test
 pub found_number : (o : Option ℕ) (n : ℕ) → option_eq eqb o (Some n) ≡ true → o ≡ Some n

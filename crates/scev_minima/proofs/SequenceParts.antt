@@ -1,5 +1,5 @@
 -- The parts of a sequential minimum, of trees at places.
-use Rattle.std.proofs.Common.{◌≡◌, ℕ, List, [], ◌∷◌, ◌++◌, map, Option, None, Some, sym, ap, ap₂, ◌∙◌, subst}
+use Rattle.std.proofs.Common.{◌≡◌, ℕ, List, [], ◌∷◌, ◌++◌, None, Some, sym, ap, ap₂, ◌∙◌, subst}
 use Rattle.std.proofs.lemmas.Bool.{cond_both}
 use Rattle.std.proofs.lemmas.List.{map-append}
 use Rattle.scev_base.specs.declared.ids.ExprId.{ExprId}
@@ -28,6 +28,7 @@ some_number w n [] = tt
 some_number w n (tree ∷ trees) =
     elim (number_of tree) as (λ o. NotEmpty (least_before w n tree o trees)) [ None ↦ tt | Some m ↦ tt ]
 
+-- whatever they are
 some_joined : (w : ℕ) (trees : List Tree) → NotEmpty trees → NotEmpty (neighbours_joined w trees)
 some_joined w [] some = absurd some
 some_joined w (tree ∷ trees) some =
@@ -41,6 +42,7 @@ some_from_zero : (trees : List Tree) → NotEmpty trees → NotEmpty (from_zero 
 some_from_zero [] some = absurd some
 some_from_zero (tree ∷ trees) some = cond_both (is_zero tree) (tree ∷ []) (tree ∷ trees) NotEmpty (λ _. tt) (λ _. tt)
 
+-- so a sequential minimum has a part
 some_part : (w : ℕ) (first second : Tree) → IsTreeOf w first → NotEmpty (sequence_parts w first second)
 some_part w first second is =
     let xs = flattened kind.Seq first in

@@ -1,4 +1,4 @@
-use Rattle.std.proofs.Common.{◌≡◌, ℕ, ◌<◌, ◌++◌, List, refl, sym, ap, subst, ◌∙◌, arith}
+use Rattle.std.proofs.Common.{◌≡◌, ◌<◌, ◌++◌, refl, sym, ap, subst, ◌∙◌, arith}
 use Rattle.scev_tree.specs.declared.kind.Kind.TheVariants as kind
 use Rattle.scev_tree.specs.Tree.{width_of}
 use Rattle.scev_arena.specs.Meaning.{tree_of}
@@ -35,7 +35,8 @@ of_parts-requires-clause-some c =
     let ones = c.deref-3.result.now in
     let whole : both ≡ xs ++ ys = c.deref-2.ensures.value ∙ c.in_ok-extend_from_slice.ensures.items
     ∙ ap (λ l. xs ++ l) c.deref.ensures.value in
-    let is = canonical_at nodes w c.args.first c.width-w.ensures.arena (c.requires.first, sym c.width-w.ensures.width) in
+    let is = canonical_at nodes w c.args.first c.width-w.ensures.arena
+    (c.requires.first, sym c.width-w.ensures.width) in
     some_place new w first second c.in_ok-parts-4.parts.items is
     (all_parts nodes new w first second xs ys both ones c.in_ok-parts-3.parts.items c.in_ok-parts-4.parts.items
     c.in_ok-parts.ensures.parts c.in_ok-flattened.ensures.parts whole

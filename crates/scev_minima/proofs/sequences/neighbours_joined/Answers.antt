@@ -1,14 +1,11 @@
-use Rattle.std.proofs.Common.{◌≡◌, ◌+◌, ◌-◌, ◌<◌, ◌≤◌, ◌∷◌, length, reverse, drop, sym, ap, ap₂, subst, ◌∙◌, arith}
+use Rattle.std.proofs.Common.{◌≡◌, ◌+◌, ◌-◌, ◌<◌, length, drop, sym, ap, ap₂, subst, ◌∙◌, arith}
 use Rattle.std.proofs.lemmas.List.{at_drop_more}
-use Rattle.scev_base.specs.declared.ids.ExprId.{ExprId}
-use Rattle.scev_arena.specs.Meaning.{tree_of}
 use Rattle.scev_forms.specs.Atoms.{number_of}
 use Rattle.scev_forms.specs.Minima as forms
-use Rattle.scev_sums.specs.Answers.{IsTreeOfAt, AreTreesOfAt, trees_at}
+use Rattle.scev_sums.specs.Answers.{AreTreesOfAt, trees_at}
 use Rattle.scev_sums.proofs.Growth.{goes_on_again, wide_goes_on, same_tree_goes_on}
 use Rattle.scev_sums.proofs.Held.{tree_among}
 use Rattle.scev_sums.proofs.Reading.{id_at}
-use Rattle.scev_minima.specs.Sequences.{reversed}
 use Rattle.scev_minima.proofs.Backwards.{turned, trees_turned, turned_held}
 use Rattle.scev_minima.proofs.sequences.neighbours_joined.Goals as goal
 
