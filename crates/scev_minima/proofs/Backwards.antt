@@ -1,13 +1,14 @@
 -- Lists from the last item to the first.
-use Rattle.std.proofs.Common.{◌≡◌, ℕ, ◌+◌, ◌-◌, ◌≤◌, ◌<◌, List, [], ◌∷◌, ◌++◌, length, map, take, reverse, get_or}
-use Rattle.std.proofs.Common.{Option, None, Some, slice_get, refl, sym, ap, ◌∙◌, arith, append_assoc}
+use Rattle.std.proofs.Common.{◌≡◌, ℕ, ◌+◌, ◌-◌, List, [], ◌∷◌, ◌++◌, length, take, reverse, get_or}
+use Rattle.std.proofs.Common.{None, Some, slice_get, refl, sym, ap, ◌∙◌, arith}
 use Rattle.std.proofs.lemmas.Grind.{reverse_onto}
-use Rattle.std.proofs.lemmas.List.{append-nil, map_push, reverse-reverse, take_more, take_all}
+use Rattle.std.proofs.lemmas.List.{map_push, take_more, take_all}
 use Rattle.std.proofs.lemmas.Option.{slice_get_within, slice_get-get_or}
 use Rattle.scev_base.specs.declared.ids.ExprId.{ExprId}
 use Rattle.scev_arena.specs.declared.node.Node.{Node}
 use Rattle.scev_arena.specs.Meaning.{tree_of}
-use Rattle.scev_sums.specs.Answers.{trees_at}
+use Rattle.scev_sums.specs.Answers.{AreTreesOfAt, trees_at}
+use Rattle.scev_sums.proofs.Held.{trees_and_last}
 use Rattle.scev_minima.specs.Sequences.{reversed}
 
 module _ {A : Type 0} where
@@ -41,12 +42,25 @@ module _ {A : Type 0} where
 
 -- the trees at places, from the last to the first
 module _ (nodes : List Node) where
+  -- one more at the end is before all
   pub last_first : (ids : List ExprId) (id : ExprId)
       → reversed (trees_at nodes (ids ++ id ∷ [])) ≡ tree_of nodes id ∷ reversed (trees_at nodes ids)
   last_first ids id =
       ap reversed (map_push (tree_of nodes) ids id) ∙ one_before (trees_at nodes ids) (tree_of nodes id)
 
+  -- the tree of a last place is the first
   pub last_of : (ids : List ExprId) (id : ExprId) → Some id ≡ slice_get ids (length ids - 1)
       → reversed (trees_at nodes ids) ≡ tree_of nodes id ∷ reversed (trees_at nodes (take (length ids - 1) ids))
   last_of ids id is =
       ap (λ l. reversed (trees_at nodes l)) (split_last ids id is) ∙ last_first (take (length ids - 1) ids) id
+
+  -- turned around, they are the trees of the places that are
+  pub trees_turned : (ids : List ExprId) → trees_at nodes (reversed ids) ≡ reversed (trees_at nodes ids)
+  trees_turned [] = refl
+  trees_turned (id ∷ ids) =
+      map_push (tree_of nodes) (reversed ids) id ∙ ap (λ l. l ++ tree_of nodes id ∷ []) (trees_turned ids)
+
+  -- they are places of trees too
+  pub turned_held : (w : ℕ) (ids : List ExprId) → AreTreesOfAt nodes w ids → AreTreesOfAt nodes w (reversed ids)
+  turned_held w [] h = tt
+  turned_held w (id ∷ ids) h = trees_and_last nodes w (reversed ids) id (turned_held w ids h.1) h.0

@@ -1,5 +1,6 @@
 -- The parts of quotients.
-use Rattle.std.proofs.Common.{◌≡◌, ℕ, ◌*◌, ◌/◌, ◌%◌, ◌^◌, ◌<◌, ◌≤◌, ◌==◌, nat_lt, Bool, true, false, if◌then◌else◌, inl, inr}
+use Rattle.std.proofs.Common.{◌≡◌, ℕ, ◌*◌, ◌/◌, ◌%◌, ◌^◌, ◌<◌, ◌≤◌, ◌==◌, nat_lt, Bool, true, false}
+use Rattle.std.proofs.Common.{if◌then◌else◌, inl, inr}
 use Rattle.std.proofs.Common.{List, [], ◌∷◌, length, map, None, Some, refl, sym, ap, ap₂, ◌∙◌, arith}
 use Rattle.std.proofs.lemmas.Bool.{lt-ltb, le-ltb, cases_lt, eq-eqb, ne_eqb}
 use Rattle.std.proofs.lemmas.List.{length-map}
@@ -77,6 +78,7 @@ greater w both low is other =
 -- ---- by the numbers that two trees are
 
 module _ (w : ℕ) (left right : Tree) where
+  -- by one that is no number
   pub by_no_number : number_of right ≡ None → made kind.Udiv w (left ∷ right ∷ []) ≡ tree_quotient w left right
   unfolding tree_quotient
   by_no_number none = sym (ap (quotient_by w left right (number_of left)) none)
@@ -91,9 +93,11 @@ module _ (w : ℕ) (left right : Tree) where
           ap₂ (quotient_by w left right) over number
           ∙ ap (λ b. if b then made kind.Udiv w (left ∷ right ∷ []) else Done (constant w (m / n))) is
 
+      -- the quotient of two numbers
       pub of_numbers : 0 < n → tree_quotient w left right ≡ Done (constant w (m / n))
       of_numbers some = by_test false (ne_eqb n 0 (λ none. omega arith))
 
+      -- by 0 it is an atom of its own
       pub by_zero : n ≡ 0 → made kind.Udiv w (left ∷ right ∷ []) ≡ tree_quotient w left right
       by_zero none = sym (by_test true (eq-eqb n 0 none))
 
@@ -106,8 +110,10 @@ module _ (w : ℕ) (left right : Tree) where
           ap₂ (quotient_by w left right) other number
           ∙ ap (λ b. if b then Done left else atom_quotient w left right n (alone left)) is
 
+      -- by 1 it is what is divided
       pub by_one : n ≡ 1 → tree_quotient w left right ≡ Done left
       by_one one = once_test true (eq-eqb n 1 one)
 
+      -- by another number it may be one quotient
       pub by_many : (n ≡ 1 → ⊥) → atom_quotient w left right n (alone left) ≡ tree_quotient w left right
       by_many many = sym (once_test false (ne_eqb n 1 many))

@@ -1,8 +1,8 @@
 -- Neighbouring numbers joined, over the trees at places.
-use Rattle.std.proofs.Common.{◌≡◌, ℕ, ◌-◌, ◌%◌, ◌^◌, ◌<◌, ◌==◌, min, Bool, true, false, if◌then◌else◌}
-use Rattle.std.proofs.Common.{List, [], ◌∷◌, ◌++◌, length, map, take, Option, None, Some, slice_get}
+use Rattle.std.proofs.Common.{◌≡◌, ℕ, ◌-◌, ◌%◌, ◌^◌, ◌<◌, ◌==◌, min, if◌then◌else◌}
+use Rattle.std.proofs.Common.{List, [], ◌∷◌, ◌++◌, length, take, None, Some, slice_get}
 use Rattle.std.proofs.Common.{refl, sym, ap, ap₂, ◌∙◌, subst, arith}
-use Rattle.std.proofs.lemmas.Bool.{eq-eqb, ne_eqb}
+use Rattle.std.proofs.lemmas.Bool.{ne_eqb}
 use Rattle.std.proofs.lemmas.Nat.{pow_pos}
 use Rattle.std.proofs.Math.Nat.{mod-eq_of_lt}
 use Rattle.scev_base.specs.declared.ids.ExprId.{ExprId}
@@ -19,7 +19,7 @@ use Rattle.scev_sums.proofs.Growth.{trees_go_on, same_trees_go_on}
 use Rattle.scev_sums.proofs.Held.{trees_and_last, trees_before}
 use Rattle.scev_sums.proofs.Making.{canonical_at}
 use Rattle.scev_minima.specs.Sequences.{reversed, first_number}
-use Rattle.scev_minima.proofs.Backwards.{split_last, none_last, last_first, last_of}
+use Rattle.scev_minima.proofs.Backwards.{split_last, none_last, last_first}
 
 -- ---- constants
 
@@ -60,6 +60,7 @@ module _ (w : ℕ) (tree : Tree) where
   number_alone n (other ∷ trees) is none =
       ap (λ t. t ∷ other ∷ trees) is ∙ sym (ap (λ o. least_before w n other o trees) none)
 
+  -- whatever the tree is
   before_no_number : (trees : List Tree) → IsTreeOf w tree → first_number trees ≡ None
       → tree ∷ trees ≡ tree_before w tree (number_of tree) trees
   before_no_number trees is none =
@@ -99,9 +100,11 @@ module _ (nodes : List Node) (w : ℕ) (id : ExprId) (ids : List ExprId) (h : Is
     parts = last_first nodes ids id ∙ same;
   }
 
+  -- so it is put, if it is no number
   pub put_no_number : number_of (tree_of nodes id) ≡ None → IsPut nodes nodes w id ids (ids ++ id ∷ [])
   put_no_number none = as_it_is (no_number_before w (tree_of nodes id) (reversed (trees_at nodes ids)) none)
 
+  -- or if the one that it stands before isn't
   pub put_before_none : IsArena nodes → first_number (reversed (trees_at nodes ids)) ≡ None
       → IsPut nodes nodes w id ids (ids ++ id ∷ [])
   put_before_none arena none =

@@ -18,6 +18,7 @@ use Rattle.scev_sums.proofs.Making.{canonical_at, value_told}
 
 module _ (nodes : List Node) (arena : IsArena nodes) (w : ℕ) (left right : ExprId) (h : IsTreeOfAt nodes w left)
     (k : IsTreeOfAt nodes w right) where
+  -- the quotient's law, at places
   quotient_law : (tree : Tree) (held : ℕ → Option ℕ) (turns : ℕ → ℕ) (n : ℕ)
       → tree_quotient w (tree_of nodes left) (tree_of nodes right) ≡ Done tree
       → quotient (value_at nodes left held turns) (value_at nodes right held turns) ≡ Some n
@@ -35,6 +36,7 @@ module _ (nodes : List Node) (arena : IsArena nodes) (w : ℕ) (left right : Exp
       value_told new w (λ held turns. quotient (value_at nodes left held turns) (value_at nodes right held turns))
       (tree_quotient w (tree_of nodes left) (tree_of nodes right)) result quotient_law told
 
+  -- the sequential minimum's
   sequence_law : 0 < w → (tree : Tree) (held : ℕ → Option ℕ) (turns : ℕ → ℕ) (n : ℕ)
       → tree_sequence w (tree_of nodes left) (tree_of nodes right) ≡ Done tree
       → least_in_sequence (value_at nodes left held turns ∷ value_at nodes right held turns ∷ []) ≡ Some n

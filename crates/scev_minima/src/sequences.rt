@@ -142,7 +142,7 @@ fn from_zero(
     ensures { IfOk result (λ found. AreAt arena.now w.bits found.items
         (forms.from_zero (trees_at arena.now parts.items))) }
 {
-    let _ = w;
+    let _ = (arena.len(), w);
     match parts.as_slice() {
         [first, ..] if number_of(arena, *first) == Some(0) => Ok(Vec::from_slice(
             alloc,

@@ -1,4 +1,4 @@
-use Rattle.std.proofs.Common.{◌≡◌, ◌*◌, ◌^◌, ◌<◌, ◌≤◌, sym, ap, ◌∙◌, subst, arith}
+use Rattle.std.proofs.Common.{◌*◌, ◌^◌, ◌<◌, ◌≤◌, subst, arith}
 use Rattle.std.proofs.Math.Pow.{pow_mono}
 use Rattle.scev_tree.specs.Tree.{constant}
 use Rattle.scev_arena.specs.Meaning.{tree_of}

@@ -1,4 +1,4 @@
-use Rattle.std.proofs.Common.{◌≡◌, ℕ, rules, ◌/◌, Some, Ok, refl, sym, ap, ◌∙◌, subst, arith}
+use Rattle.std.proofs.Common.{◌≡◌, rules, ◌/◌, Some, Ok, refl, sym, ap, ◌∙◌, subst, arith}
 use Rattle.scev_tree.specs.Tree.{width_of, constant}
 use Rattle.scev_arena.specs.Meaning.{tree_of}
 use Rattle.scev_forms.specs.Atoms.{number_of}
