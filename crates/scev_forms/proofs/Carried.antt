@@ -1,15 +1,14 @@
 -- Plans that are carried out over trees: their parts stand for the items of the plan.
 use Rattle.std.proofs.Common.{ℕ, zero, suc, ◌<◌, List, [], ◌∷◌, ◌++◌, map, get_or}
-use Rattle.std.proofs.Common.{Option, Some, None, ◌∙◌}
+use Rattle.std.proofs.Common.{Option, Some, ◌∙◌}
 use Rattle.std.proofs.lemmas.Bool.{cond_both}
-use Rattle.scev_base.specs.Iterated.{iterated}
 use Rattle.rec_algebra.specs.Plans.{Plan}
 use Rattle.rec_algebra.specs.declared.plan.PlanStep.{PlanStep}
 use Rattle.rec_algebra.specs.declared.plan.PlanStep.TheVariants as step
 use Rattle.rec_algebra.specs.Plans.{step_item, place_items, carried}
 use Rattle.scev_tree.specs.Tree.{Tree, Terms}
 use Rattle.scev_tree.specs.Canonical.{AreCanonicalTerms}
-use Rattle.scev_tree.specs.Value.{sum, product, tree_value, terms_value}
+use Rattle.scev_tree.specs.Value.{sum, product, terms_value}
 use Rattle.scev_forms.specs.Outcome.{Outcome, Refused}
 use Rattle.scev_forms.specs.Polynomials.{terms_of, terms_sum, terms_product}
 use Rattle.scev_arena.specs.Limits.{are_wide}
@@ -17,11 +16,11 @@ use Rattle.scev_arena.specs.declared.limit.Limit.TheVariants.{TooWide}
 use Rattle.scev_forms.specs.Gather.{trimmed}
 use Rattle.scev_forms.specs.Sums.{formed_within, sum_by, product_by, at_place, step_by, places_by, carried_by}
 use Rattle.scev_forms.proofs.Outcomes.{Gives, gives_next, gives_more}
-use Rattle.scev_forms.proofs.Kept.{Keeps, keeps_none, keeps_again, keeps_sum, keeps_product}
+use Rattle.scev_forms.proofs.Kept.{Keeps, keeps_again, keeps_sum, keeps_product}
 use Rattle.scev_forms.proofs.Polynomials.{terms_sum_canonical, terms_product_canonical, terms_sum_value}
 use Rattle.scev_forms.proofs.Polynomials.{terms_product_value}
 use Rattle.scev_forms.proofs.Standing.{value_at, Stands, AllStand, PartsStand, IsFormer, stands_kept, zero_stands}
-use Rattle.scev_forms.proofs.Standing.{terms_of_canonical, terms_of_value, all_trees}
+use Rattle.scev_forms.proofs.Standing.{terms_of_canonical, terms_of_value, parts_from_all}
 use Rattle.scev_forms.proofs.Trimmed.{trimmed_stand, gives_tested_parts}
 
 module _ (held : ℕ → Option ℕ) (turns : ℕ → ℕ) (w : ℕ) (form : Terms → Outcome Tree)
@@ -138,30 +137,6 @@ module _ (held : ℕ → Option ℕ) (turns : ℕ → ℕ) (w : ℕ) (form : Ter
 
   -- ---- recurrences
 
-  -- the iterated sum keeps what its parts keep
-  iterated_kept : (turn : ℕ) (x : Option ℕ) (tree : Tree) (xs : List (Option ℕ)) (trees : List Tree)
-      → AllStand held turns w (x ∷ xs) (tree ∷ trees)
-      → Keeps (iterated (sum w) turn x xs)
-      (iterated (sum w) turn (tree_value held turns tree) (map (tree_value held turns) trees))
-  unfolding iterated
-  iterated_kept zero x tree xs trees h = h.0.1
-  iterated_kept (suc turn) x tree [] [] h = h.0.1
-  iterated_kept (suc turn) x tree [] (second ∷ trees) h = absurd h.1
-  iterated_kept (suc turn) x tree (y ∷ xs) [] h = absurd h.1
-  iterated_kept (suc turn) x tree (y ∷ xs) (second ∷ trees) h =
-      keeps_sum w _ _ _ _ (iterated_kept turn x tree (y ∷ xs) (second ∷ trees) h)
-      (iterated_kept turn y second xs trees h.1)
-
-  -- parts that stand for items stand for their iterated sum
-  parts_from_all : (l : ℕ) (xs : List (Option ℕ)) (trees : List Tree)
-      → AllStand held turns w xs trees
-      → PartsStand held turns w l (value_at w (turns l) xs) trees
-  parts_from_all l [] [] h = (tt, keeps_none None)
-  parts_from_all l [] (tree ∷ trees) h = absurd h
-  parts_from_all l (x ∷ xs) [] h = absurd h
-  parts_from_all l (x ∷ xs) (tree ∷ trees) h =
-      (all_trees held turns w (x ∷ xs) (tree ∷ trees) h, iterated_kept (turns l) x tree xs trees h)
-
   -- A plan that is carried out over trees gives parts that stand for what it gives of items.
   pub carried_stand : (l : ℕ) (plan : Plan) (items : List (Option ℕ)) (operands : List Tree)
       → AllStand held turns w items operands
@@ -177,5 +152,5 @@ module _ (held : ℕ → Option ℕ) (turns : ℕ → ℕ) (w : ℕ) (form : Ter
       let results = map (at_place w places) plan.results in
       gives_tested_parts held turns w (PartsStand held turns w l value) l (trimmed results)
       (trimmed_stand held turns w l value results
-      (parts_from_all l (carried (sum w) (product w) (Some 0) plan items) results
+      (parts_from_all held turns w l (carried (sum w) (product w) (Some 0) plan items) results
       (results_stand all places those plan.results))))

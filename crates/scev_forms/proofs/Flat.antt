@@ -38,7 +38,7 @@ many_no_leaf held w (kind.Leaf register loop) is = absurd is
 many_no_leaf held w _ is = tt
 
 -- it has two parts or more, of its width
-many_parts : (k : Kind) (w : ℕ) (parts : Parts)
+pub many_parts : (k : Kind) (w : ℕ) (parts : Parts)
     → TakesMany k
     → HasParts k w parts
     → (2 ≤ count_parts parts) × HaveWidth w parts
@@ -50,7 +50,7 @@ many_parts kind.Seq w parts is has = has
 many_parts _ w parts is has = absurd is
 
 -- and any such
-has_many : (k : Kind) (w : ℕ) (parts : Parts)
+pub has_many : (k : Kind) (w : ℕ) (parts : Parts)
     → TakesMany k
     → (2 ≤ count_parts parts) × HaveWidth w parts
     → HasParts k w parts
@@ -62,7 +62,7 @@ has_many kind.Seq w parts is has = has
 has_many _ w parts is has = absurd is
 
 -- it is known by its rank
-same_rank : (k inner : Kind) → TakesMany k → rank inner ≡ rank k → inner ≡ k
+pub same_rank : (k inner : Kind) → TakesMany k → rank inner ≡ rank k → inner ≡ k
 same_rank kind.Smax kind.Smax is e = refl
 same_rank kind.Smax _ is e = absurd cc
 same_rank kind.Umax kind.Umax is e = refl

@@ -23,3 +23,8 @@ pub mod Truncations
 pub mod CutNumbers
 pub mod TruncatedValues
 pub mod Loops
+pub mod Supposed
+pub mod FoldedValues
+pub mod CountedValues
+pub mod Reformed
+pub mod TurnValues

@@ -89,7 +89,7 @@ first_not_empty k w (Some m) None tree trees = number_not_empty k w m trees
 first_not_empty k w (Some m) (Some n) tree trees = number_not_empty k w (chosen k w m n) trees
 
 -- so of some trees there is a part
-min_parts_not_empty : (k : Kind) (w : ℕ) (trees : List Tree)
+pub min_parts_not_empty : (k : Kind) (w : ℕ) (trees : List Tree)
     → NotEmpty trees
     → NotEmpty (min_parts_of k w (numbers_joined k w trees) (no_numbers trees))
 min_parts_not_empty k w [] h = absurd h
@@ -117,7 +117,7 @@ minimum_is_tree k w left right out is some l r h =
 -- ---- values
 
 -- the value of an atom of such a kind is that of its parts, joined
-kind_joined : (held : ℕ → Option ℕ) (turns : ℕ → ℕ) (k : Kind) (w : ℕ) (parts : Parts)
+pub kind_joined : (held : ℕ → Option ℕ) (turns : ℕ → ℕ) (k : Kind) (w : ℕ) (parts : Parts)
     → IsMinimum k
     → atom_value held turns (atom k w parts) ≡ joined (chosen k w) (values (parts_values held turns parts))
 kind_joined held turns kind.Smax w parts is = refl
@@ -138,12 +138,12 @@ module _ (held : ℕ → Option ℕ) (turns : ℕ → ℕ) (k : Kind) (w : ℕ)
   -- ---- of two numbers, or none
 
   -- what is chosen is below
-  chosen_below : (x y : Option ℕ) → IsBelow w x → IsBelow w y → IsBelow w (lifted (chosen k w) x y)
+  pub chosen_below : (x y : Option ℕ) → IsBelow w x → IsBelow w y → IsBelow w (lifted (chosen k w) x y)
   chosen_below (Some a) (Some b) h h' = choice.closed a b h h'
   chosen_below _ _ h h' = tt
 
   -- in either grouping
-  chosen_grouped : (x y z : Option ℕ)
+  pub chosen_grouped : (x y z : Option ℕ)
       → IsBelow w x
       → IsBelow w y
       → IsBelow w z

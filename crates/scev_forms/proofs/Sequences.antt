@@ -126,7 +126,7 @@ sequence_is_tree w first second out some f s h =
 -- ---- values, one after another
 
 -- the lesser of two, which is 0 where the first is, whatever the second
-abbrev chain : Option ℕ → Option ℕ → Option ℕ
+abbrev pub chain : Option ℕ → Option ℕ → Option ℕ
 chain (Some zero) y = Some zero
 chain x y = lifted min x y
 
@@ -141,7 +141,7 @@ chain_numbers zero n = ap Some (let least : 0 ≡ min 0 n = omega arith in least
 chain_numbers (suc m) n = refl
 
 -- three, in either grouping
-chain_grouped : (x y z : Option ℕ) → chain (chain x y) z ≡ chain x (chain y z)
+pub chain_grouped : (x y z : Option ℕ) → chain (chain x y) z ≡ chain x (chain y z)
 chain_grouped None y z = refl
 chain_grouped (Some zero) y z = refl
 chain_grouped (Some (suc a)) None z = refl
@@ -169,7 +169,7 @@ chain_again (Some (suc a)) (Some (suc b)) =
     ap Some (let same : min (suc a) (min (suc b) (suc a)) ≡ min (suc a) (suc b) = omega arith in same)
 
 -- the least of a list, by its first
-least_first : (x y : Option ℕ) (xs : List (Option ℕ))
+pub least_first : (x y : Option ℕ) (xs : List (Option ℕ))
     → least_in_sequence (x ∷ y ∷ xs) ≡ chain x (least_in_sequence (y ∷ xs))
 least_first None y xs = refl
 least_first (Some zero) y xs = refl

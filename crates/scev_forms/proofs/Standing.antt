@@ -1,5 +1,5 @@
 -- Trees and parts of recurrences that stand for a value: canonical, and with that value wherever it is a number.
-use Rattle.std.proofs.Common.{◌≡◌, ℕ, ◌%◌, ◌^◌, ◌<◌, List, [], ◌∷◌, map}
+use Rattle.std.proofs.Common.{◌≡◌, ℕ, zero, suc, ◌%◌, ◌^◌, ◌<◌, List, [], ◌∷◌, map}
 use Rattle.std.proofs.Common.{Option, Some, None, refl, sym, ap, ◌∙◌, subst, arith}
 use Rattle.std.proofs.Math.Nat.{mod-eq_of_lt}
 use Rattle.std.proofs.lemmas.Nat.{pow_pos, pow_below}
@@ -18,7 +18,8 @@ use Rattle.scev_forms.specs.Sums.{recurrence}
 use Rattle.scev_forms.proofs.Outcomes.{Gives}
 use Rattle.scev_forms.proofs.Atoms.{value_below, constant_is_tree}
 use Rattle.scev_forms.proofs.Flat.{trees_have_width, trees_are_canonical, values_of_trees}
-use Rattle.scev_forms.proofs.Kept.{Keeps, keeps_same, keeps_none, keeps_again, plus_zero, times_one, number_semiring}
+use Rattle.scev_forms.proofs.Kept.{Keeps, keeps_same, keeps_none, keeps_again, keeps_sum, plus_zero, times_one}
+use Rattle.scev_forms.proofs.Kept.{number_semiring}
 
 -- ---- what stands for a value
 
@@ -119,6 +120,30 @@ module _ (held : ℕ → Option ℕ) (turns : ℕ → ℕ) (w : ℕ) where
   -- one part is its own value
   pub lone_part_value : (l : ℕ) (tree : Tree) → parts_value l (tree ∷ []) ≡ tree_value held turns tree
   lone_part_value l tree = value_of_single (number_semiring w) (turns l) (tree_value held turns tree)
+
+  -- the iterated sum keeps what its parts keep
+  pub iterated_kept : (turn : ℕ) (x : Option ℕ) (tree : Tree) (xs : List (Option ℕ)) (trees : List Tree)
+      → AllStand (x ∷ xs) (tree ∷ trees)
+      → Keeps (iterated (sum w) turn x xs)
+      (iterated (sum w) turn (tree_value held turns tree) (map (tree_value held turns) trees))
+  unfolding iterated
+  iterated_kept zero x tree xs trees h = h.0.1
+  iterated_kept (suc turn) x tree [] [] h = h.0.1
+  iterated_kept (suc turn) x tree [] (second ∷ trees) h = absurd h.1
+  iterated_kept (suc turn) x tree (y ∷ xs) [] h = absurd h.1
+  iterated_kept (suc turn) x tree (y ∷ xs) (second ∷ trees) h =
+      keeps_sum w _ _ _ _ (iterated_kept turn x tree (y ∷ xs) (second ∷ trees) h)
+      (iterated_kept turn y second xs trees h.1)
+
+  -- parts that stand for items stand for their iterated sum
+  pub parts_from_all : (l : ℕ) (xs : List (Option ℕ)) (trees : List Tree)
+      → AllStand xs trees
+      → PartsStand l (value_at w (turns l) xs) trees
+  parts_from_all l [] [] h = (tt, keeps_none None)
+  parts_from_all l [] (tree ∷ trees) h = absurd h
+  parts_from_all l (x ∷ xs) [] h = absurd h
+  parts_from_all l (x ∷ xs) (tree ∷ trees) h =
+      (all_trees (x ∷ xs) (tree ∷ trees) h, iterated_kept (turns l) x tree xs trees h)
 
   -- ---- atoms of recurrences
 

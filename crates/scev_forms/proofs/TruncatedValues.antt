@@ -31,7 +31,7 @@ use Rattle.scev_forms.proofs.Truncations.{next_done, either_way, parts_done, ter
 use Rattle.scev_forms.proofs.Truncations.{tree_cut, factors_cut, atom_cut, parts_cut}
 
 -- where something is made of a number, there is the number
-mapped_number : (f : ℕ → ℕ) (x : Option ℕ) (n : ℕ)
+pub mapped_number : (f : ℕ → ℕ) (x : Option ℕ) (n : ℕ)
     → option_map f x ≡ Some n
     → (m : ℕ) × (x ≡ Some m) × (f m ≡ n)
 mapped_number f None n h = absurd cc

@@ -1,6 +1,6 @@
 //! Laws of the normal form. Each is a function that does nothing.
 
-ghost use Rattle.std.specs.Prelude.{◌≡◌, ℕ, ◌<◌, ◌≤◌, ◌==◌, ◌%◌, ◌^◌, ◌⊎◌, ◌↔◌, Bool, IsTrue};
+ghost use Rattle.std.specs.Prelude.{◌≡◌, ℕ, ◌<◌, ◌≤◌, ◌==◌, ◌%◌, ◌^◌, ◌⊎◌, ◌↔◌, Bool, false, IsTrue};
 ghost use Rattle.std.specs.Prelude.{List, [], ◌∷◌, length, map, Option, Some};
 ghost use Rattle.scev_base.specs.Iterated.{iterated};
 ghost use Rattle.scev_base.specs.Nest.{Contains, HasDepth, IsNest};
@@ -15,6 +15,7 @@ ghost use Rattle.scev_forms.specs.Gather.{stands_in, depth_of};
 ghost use Rattle.scev_forms.specs.Sums.{tree_sum, tree_product, recurrence_of};
 ghost use Rattle.scev_forms.specs.Casts.{truncated, extended, extended_when, extended_number};
 ghost use Rattle.scev_forms.specs.Ranges.{StaysInRange};
+ghost use Rattle.scev_forms.specs.Turns.{is_hindered, tree_at_turn};
 ghost use Rattle.scev_forms.specs.Quotients.{tree_quotient};
 ghost use Rattle.scev_forms.specs.Minima.{tree_minimum, tree_sequence, chosen, IsMinimum};
 
@@ -95,6 +96,22 @@ pub fn extensions_within_range_keep_the_value()
         → (IsTrue no_wrap → StaysInRange k held turns tree)
         → tree_value held turns tree ≡ Some n
         → tree_value held turns out ≡ Some (extended_number k (width_of tree) w n) }
+{}
+
+/// The value of a canonical tree at a turn of a loop is canonical. Whenever the loop is at the turn that the count is, it
+/// has the value of the tree.
+pub fn turns_keep_the_value()
+    ensures canonical { (parents : List (Option ℕ)) (l : ℕ) (count tree out : Tree)
+        → 0 < width_of tree → IsCanonical tree → IsCanonical count
+        → is_hindered parents l count tree ≡ false
+        → tree_at_turn parents l count tree ≡ Done out → IsTreeOf (width_of tree) out }
+    ensures value { (parents : List (Option ℕ)) (l : ℕ) (count tree out : Tree)
+        (held : ℕ → Option ℕ) (turns : ℕ → ℕ) (n : ℕ)
+        → 0 < width_of tree → IsCanonical tree → IsCanonical count
+        → is_hindered parents l count tree ≡ false
+        → tree_at_turn parents l count tree ≡ Done out
+        → tree_value held turns count ≡ Some (turns l)
+        → tree_value held turns tree ≡ Some n → tree_value held turns out ≡ Some n }
 {}
 
 /// A quotient of canonical trees is one, and has the quotient of their values, where that is a number.

@@ -27,7 +27,7 @@ all_more Is [] x h here = (here, tt)
 all_more Is (y ∷ xs) x h here = (h.0, all_more Is xs x h.1 here)
 
 -- trees as parts, and as trees again
-trees_again : (trees : List Tree) → trees_of (parts_of trees) ≡ trees
+pub trees_again : (trees : List Tree) → trees_of (parts_of trees) ≡ trees
 trees_again [] = refl
 trees_again (tree ∷ trees) = ap (λ ts. tree ∷ ts) (trees_again trees)
 
@@ -77,7 +77,7 @@ module _ (nodes : List Node) (l : ℕ) where
 -- ---- the places of the parts
 
 -- places of trees that are parts of a width
-wide_parts : (nodes : List Node) (w : ℕ) (ids : List ExprId)
+pub wide_parts : (nodes : List Node) (w : ℕ) (ids : List ExprId)
     → AreTrees nodes ids
     → HaveWidth w (parts_of (trees_at nodes ids))
     → AreTreesOfAt nodes w ids

@@ -1,0 +1,12 @@
+pub mod Flattening
+pub mod InOrder
+pub mod MinParts
+pub mod Minimum
+pub mod Numbers
+pub mod Divided
+pub mod Valued
+pub mod Backwards
+pub mod Joined
+pub mod FromZero
+pub mod FirstOnes
+pub mod SequenceParts

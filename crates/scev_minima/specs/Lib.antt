@@ -1,0 +1,3 @@
+pub mod Kinds
+pub mod Quotients
+pub mod Sequences
