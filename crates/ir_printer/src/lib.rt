@@ -30,4 +30,6 @@ mod module;
 
 pub use module::print_module;
 pub use names::push_text_name;
+pub use numeral::push_numeral;
 pub use shown::{Names, push_block_name, push_global_name, push_value_name};
+pub use types::push_type;
