@@ -1,6 +1,7 @@
 //! Sums, products and chains of recurrences of expressions, formed in an arena.
 #![tactic(auto)]
 
+mod copied;
 mod error;
 mod gather;
 mod make;
@@ -8,6 +9,7 @@ mod parts;
 mod sums;
 mod tested;
 
+pub use copied::copied_terms;
 pub use error::FoldError;
 pub use make::{make_product, make_rec, make_sum};
 pub use parts::push;

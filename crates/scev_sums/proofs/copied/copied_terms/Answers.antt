@@ -4,7 +4,7 @@ use Rattle.scev_tree.specs.Tree.{polynomial}
 use Rattle.scev_arena.specs.Meaning.{meanings, terms_at}
 use Rattle.scev_arena.specs.Standing.{AreOverAtoms}
 use Rattle.scev_walk.specs.Reading.{AreOverBelow}
-use Rattle.scev_casts.proofs.truncations.terms_of.Goals as goal
+use Rattle.scev_sums.proofs.copied.copied_terms.Goals as goal
 
 pub returns-clause-tree : goal.returns-clause-tree
 returns-clause-tree c =

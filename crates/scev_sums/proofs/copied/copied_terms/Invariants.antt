@@ -1,5 +1,5 @@
 use Rattle.std.proofs.Common.{◌≡◌, take}
-use Rattle.scev_casts.proofs.truncations.terms_of.Given as goal
+use Rattle.scev_sums.proofs.copied.copied_terms.Given as goal
 
 abbrev pub invariant-loop-term : goal.invariant-loop-term
 invariant-loop-term l = l.copies.items ≡ take l.term-index l.terms
