@@ -29,13 +29,13 @@ use Rattle.scev_sums.proofs.Refusals.{LeadsOn, led_on}
 -- ---- places
 
 -- an atom has one width
-one_width : (v w : ℕ) (o : Option Node) → HoldsAtom v o → HoldsAtom w o → v ≡ w
+pub one_width : (v w : ℕ) (o : Option Node) → HoldsAtom v o → HoldsAtom w o → v ≡ w
 one_width v w (Some (node.Atom k width parts)) h wide = sym h ∙ wide
 one_width v w (Some (node.Tree width terms)) h wide = absurd h
 one_width v w None h wide = absurd h
 
 -- places of trees that are parts of a width
-wide_parts : (nodes : List Node) (w : ℕ) (ids : List ExprId)
+pub wide_parts : (nodes : List Node) (w : ℕ) (ids : List ExprId)
     → AreTrees nodes ids
     → HaveWidth w (parts_of (trees_at nodes ids))
     → AreTreesOfAt nodes w ids

@@ -26,7 +26,7 @@ use Rattle.scev_casts.specs.Steps.{monomial_cut}
 -- ---- outcomes
 
 -- one step behind two is one behind the second, behind the first
-next_both : {A B C : Type 0} (o : Outcome A) (f : A → Outcome B) (g : B → Outcome C)
+pub next_both : {A B C : Type 0} (o : Outcome A) (f : A → Outcome B) (g : B → Outcome C)
     → next (next o f) g ≡ next o (λ a. next (f a) g)
 next_both (Done a) f g = refl
 next_both (Refused why) f g = refl
@@ -38,7 +38,7 @@ next_choice true x o f g = refl
 next_choice false x o f g = next_both o f g
 
 -- items that are put before what comes next
-before_next : {A : Type 0} (o : Outcome A) (p : Outcome (List A)) (before : List A)
+pub before_next : {A : Type 0} (o : Outcome A) (p : Outcome (List A)) (before : List A)
     → next o (λ x. next p (λ others. Done (before ++ x ∷ others)))
     ≡ next (next o (λ x. next p (λ others. Done (x ∷ others)))) (λ all. Done (before ++ all))
 before_next (Done x) (Done others) before = refl
@@ -46,7 +46,7 @@ before_next (Done x) (Refused why) before = refl
 before_next (Refused why) p before = refl
 
 -- one item more before what comes next
-one_before : {A : Type 0} (p : Outcome (List A)) (before all : List A) (x : A)
+pub one_before : {A : Type 0} (p : Outcome (List A)) (before all : List A) (x : A)
     → all ≡ before ++ x ∷ []
     → next p (λ others. Done (all ++ others)) ≡ next p (λ others. Done (before ++ x ∷ others))
 one_before (Done others) before all x e = ap (λ l. Done (l ++ others)) e ∙ ap Done (append_assoc before (x ∷ []) others)
@@ -185,7 +185,7 @@ module _ (parents : List (Option ℕ)) (w : ℕ) (ts : List Term) {whole : Outco
       }
 
 -- an atom stays as the arena goes on
-same_atom_goes_on : (old new : List Node) (w : ℕ) (id : ExprId) → GoesOn old new → IsAtomAt old w id
+pub same_atom_goes_on : (old new : List Node) (w : ℕ) (id : ExprId) → GoesOn old new → IsAtomAt old w id
     → atom_of new id ≡ atom_of old id
 same_atom_goes_on old new w id grows h =
     ap (λ l. atom_of l id) grows.1 ∙ atom_stays old grows.0 id (atom_within old w id h)

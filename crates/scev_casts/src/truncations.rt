@@ -16,11 +16,13 @@ ghost use Rattle.scev_casts.specs.Steps.{monomial_cut};
 use poly_terms::Term;
 use scev_arena::Arena;
 use scev_base::{ExprId, LoopNest, Width, trunc};
-use scev_sums::{FoldError, constant, made, make_product, make_rec, make_sum, push, tree_of_atom};
+use scev_sums::{
+    FoldError, constant, copied_terms, made, make_product, make_rec, make_sum, push, tree_of_atom,
+};
 use scev_tree::Kind;
-use scev_walk::{atom_at, tree_at, width};
+use scev_walk::{atom_at, width};
 use sqlite_items::Items;
-use std::alloc::{AllocError, Global};
+use std::alloc::Global;
 
 /// The expression modulo 2^w, where w isn't above its width. Of the same width it is itself. `TooWide`, `TooHigh` and
 /// `TooDeep` come exactly where the first tree that is above a limit is, on the way or in the end, and `OutOfMemory`
@@ -62,24 +64,8 @@ fn truncated(
     if width(arena, id) == w {
         return Ok(id);
     }
-    let (from, terms) = terms_of(alloc, arena, id)?;
+    let (from, terms) = copied_terms(alloc, arena, id)?;
     truncated_terms(alloc, arena, nest, from, w, id.0, terms.as_slice())
-}
-
-/// The width of a tree and its terms, in a list of their own.
-fn terms_of(alloc: Global, arena: &Arena, id: ExprId) -> Result<(Width, Items<Term>), AllocError>
-    requires { IsTreeAt arena.now id }
-    ensures tree { IfOk result (λ both.
-        tree_of arena.now id ≡ tree.polynomial both.0.bits (terms_at (meanings arena.now) both.1)) }
-    ensures over { IfOk result (λ both. AreOverAtoms arena.now both.0.bits both.1) }
-    ensures below { IfOk result (λ both. AreOverBelow id.0 both.1) }
-{
-    let (w, terms) = tree_at(arena, id);
-    let mut copies = Vec::with_capacity(alloc, terms.len())?;
-    for term in terms {
-        copies.push(term.copy(alloc)?)?;
-    }
-    Ok((w, Items::from_vec(copies)))
 }
 
 /// The sum of the lowest bits of terms of wider trees, from 0 on. The atoms of the terms stand below a place.

@@ -15,19 +15,19 @@ use crate::reformed::reformed;
 use poly_terms::Term;
 use scev_arena::Arena;
 use scev_base::{ExprId, LoopId, LoopNest, Width};
-use scev_sums::{FoldError, constant, make_product, make_sum, push};
+use scev_sums::{FoldError, constant, copied_terms, make_product, make_sum, push};
 use scev_tree::Kind;
-use scev_walk::{atom_at, tree_at};
+use scev_walk::atom_at;
 use sqlite_items::Items;
-use std::alloc::{AllocError, Global};
+use std::alloc::Global;
 
-/// The expression once the loop is at the turn that the count is, a number that is read as unsigned. Each recurrence of
-/// the loop becomes its value there: at a number n the sum of part i times C(n, i) for i up to n, and at any other count,
-/// where there are two parts and the second is a number, start + step · count, with the count truncated or extended
-/// without sign to the width; and the expression is formed anew. None where a recurrence of the loop is of neither sort,
-/// or a register in it is defined in the loop. `TooWide`, `TooHigh` and `TooDeep` come exactly where the first tree that
-/// is above a limit is, on the way or in the end, and `OutOfMemory` only where no memory is found. The arena only goes
-/// on, also where an error comes.
+/// The expression once the loop is at the turn that the count is, a number that is read as unsigned. Each recurrence
+/// of the loop becomes its value there: at a number n the sum of part i times C(n, i) for i up to n, and at any other
+/// count, where there are two parts and the second is a number, start + step · count, with the count truncated or
+/// extended without sign to the width; and the expression is formed anew. None where a recurrence of the loop is of
+/// neither sort, or a register in it is defined in the loop. `TooWide`, `TooHigh` and `TooDeep` come exactly where the
+/// first tree that is above a limit is, on the way or in the end, and `OutOfMemory` only where no memory is found. The
+/// arena only goes on, also where an error comes.
 pub fn at_turn(
     alloc: Global,
     arena: &mut Arena,
@@ -43,10 +43,13 @@ pub fn at_turn(
         (forms.at_turn nest.now l.0 (tree_of arena.old count) (tree_of arena.old id)) result }
     ensures value { IfOk result (λ found. IfSome found (HasValueAtTurn arena.old arena.new l.0 count id)) }
 {
+    // An arena tells with its length that its trees are canonical.
+    let _ = arena.len();
     if is_hindered(arena, nest, l, count, id) {
         return Ok(None);
     }
-    Ok(Some(tree_at_turn(alloc, arena, nest, l, count, id)?))
+    let found = tree_at_turn(alloc, arena, nest, l, count, id)?;
+    Ok(Some(found))
 }
 
 /// The tree at the turn.
@@ -65,24 +68,8 @@ fn tree_at_turn(
     ensures tree { Tells (IsAt arena.new (tree.width_of (tree_of arena.old id)))
         (forms.tree_at_turn nest.now l.0 (tree_of arena.old count) (tree_of arena.old id)) result }
 {
-    let (w, terms) = terms_of(alloc, arena, id)?;
+    let (w, terms) = copied_terms(alloc, arena, id)?;
     terms_at_turn(alloc, arena, nest, l, count, w, id.0, terms.as_slice())
-}
-
-/// The width of a tree and its terms, in a list of their own.
-fn terms_of(alloc: Global, arena: &Arena, id: ExprId) -> Result<(Width, Items<Term>), AllocError>
-    requires { IsTreeAt arena.now id }
-    ensures tree { IfOk result (λ both.
-        tree_of arena.now id ≡ tree.polynomial both.0.bits (terms_at (meanings arena.now) both.1)) }
-    ensures over { IfOk result (λ both. AreOverAtoms arena.now both.0.bits both.1) }
-    ensures below { IfOk result (λ both. AreOverBelow id.0 both.1) }
-{
-    let (w, terms) = tree_at(arena, id);
-    let mut copies = Vec::with_capacity(alloc, terms.len())?;
-    for term in terms {
-        copies.push(term.copy(alloc)?)?;
-    }
-    Ok((w, Items::from_vec(copies)))
 }
 
 /// The sum of terms at the turn, from 0 on. Their atoms stand below a place.
@@ -167,8 +154,8 @@ fn factors_at_turn(
     Ok(product)
 }
 
-/// An atom at the turn: a recurrence of the loop becomes its value there, and any other atom is formed anew of its parts
-/// there.
+/// An atom at the turn: a recurrence of the loop becomes its value there, and any other atom is formed anew of its
+/// parts there.
 #[cycle(turning)]
 fn atom_at_turn(
     alloc: Global,
@@ -187,11 +174,12 @@ fn atom_at_turn(
 {
     let (kind, _, parts) = atom_at(arena, id);
     let parts = Items::from_slice(alloc, parts)?;
+    let ids = parts.as_slice();
     if kind == Kind::Rec(l) {
-        return counted(alloc, arena, nest, w, count, parts.as_slice());
+        return counted(alloc, arena, nest, w, count, ids);
     }
-    let parts = parts_at_turn(alloc, arena, nest, l, count, id.0, parts.as_slice())?;
-    reformed(alloc, arena, nest, w, kind, Items::from_vec(parts))
+    let formed = parts_at_turn(alloc, arena, nest, l, count, id.0, ids)?;
+    reformed(alloc, arena, nest, w, kind, Items::from_vec(formed))
 }
 
 /// Parts at the turn. They stand below a place.
