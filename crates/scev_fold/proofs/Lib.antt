@@ -1,3 +1,4 @@
+pub mod KindsCompared
 pub mod Countable
 pub mod SameParts
 pub mod Turning

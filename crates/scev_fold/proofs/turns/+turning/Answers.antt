@@ -1,8 +1,9 @@
-use Rattle.std.proofs.Common.{◌≡◌, ◌×◌, ℕ, ◌+◌, List, [], ◌∷◌, map, get_or, drop, Vec, Global, Ok, Err}
+use Rattle.std.proofs.Common.{◌≡◌, ℕ, ◌+◌, List, [], ◌∷◌, map, get_or, drop, Vec, Global, Ok, Err}
 use Rattle.std.proofs.Common.{refl, sym, ap, ◌∙◌, subst, arith}
 use Rattle.std.proofs.lemmas.List.{drop_all}
 use Rattle.std.proofs.lemmas.Result.{err_from_is_err_and}
 use Rattle.scev_base.specs.declared.ids.ExprId.{ExprId}
+use Rattle.scev_tree.specs.declared.kind.Kind.TheVariants as kind
 use Rattle.scev_tree.specs.Tree.{Tree, polynomial, constant, width_of, parts_of}
 use Rattle.scev_tree.specs.Canonical.{HasParts}
 use Rattle.scev_arena.specs.declared.node.Node.{Node}
@@ -20,6 +21,7 @@ use Rattle.scev_sums.proofs.Refusals.{led_on, refused}
 use Rattle.scev_sums.proofs.Telling.{told_same}
 use Rattle.scev_casts.proofs.AtomsCut.{one_width, rec_parts}
 use Rattle.scev_casts.proofs.Cutting.{sum_told, product_told}
+use Rattle.scev_fold.proofs.KindsCompared.{is_kind, is_other_kind}
 use Rattle.scev_fold.proofs.SameParts.{parts_too}
 use Rattle.scev_fold.proofs.Turning.{whole_tree, product_turns, terms_turned, monomial_leads, monomial_added}
 use Rattle.scev_fold.proofs.Turning.{factors_turned, atom_leads, times_leads, multiplied, parts_turned, widths_turned}
@@ -352,7 +354,9 @@ atom_at_turn-counted-requires-clause-parts t c =
     let atom = c.atom_at-kind.ensures in
     rec_parts c.args.arena.now c.args.id c.atom_at-kind.result.0 c.atom_at-kind.result.1.bits
     c.atom_at-kind.result.2.now c.args.nest.now c.args.w.bits atom.is atom.parts
-    (c.as_slice-ids.ensures ∙ c.in_ok-parts.ensures) c.args.w.bits ? atom.width c.requires.atom atom.trees
+    (c.as_slice-ids.ensures ∙ c.in_ok-parts.ensures) c.args.w.bits
+    (is_kind c.args.w c.atom_at-kind.result.0 (kind.Rec c.args.l) (sym c.eq.ensures ∙ c.if-eq.true))
+    atom.width c.requires.atom atom.trees
 
 pub atom_at_turn-returns-then-eq-clause-tree : goal.atom_at_turn-returns-then-eq-clause-tree
 atom_at_turn-returns-then-eq-clause-tree t c =
@@ -362,7 +366,8 @@ atom_at_turn-returns-then-eq-clause-tree t c =
     told_same (IsAt c.counted.new.arena w) _ _ c.counted.result
     (loop_counted nodes c.args.id c.atom_at-kind.result.0 c.atom_at-kind.result.1.bits w c.atom_at-kind.result.2.now
     atom.is (one_width c.atom_at-kind.result.1.bits w _ atom.width c.requires.atom)
-    (c.as_slice-ids.ensures ∙ c.in_ok-parts.ensures) c.args.nest.now c.args.l (tree_of nodes c.args.count) ?)
+    (c.as_slice-ids.ensures ∙ c.in_ok-parts.ensures) c.args.nest.now c.args.l (tree_of nodes c.args.count)
+    (is_kind c.args.w c.atom_at-kind.result.0 (kind.Rec c.args.l) (sym c.eq.ensures ∙ c.if-eq.true)))
     c.counted.ensures.tree
 
 pub atom_at_turn-parts_at_turn-requires : goal.atom_at_turn-parts_at_turn-requires
@@ -386,7 +391,8 @@ atom_at_turn-returns-in_err-formed-clause-tree t c =
     refused (HoldAt new) (IsAt new w)
     (parts_lead nodes c.args.id c.atom_at-kind.result.0 c.atom_at-kind.result.1.bits w c.atom_at-kind.result.2.now
     atom.is (one_width c.atom_at-kind.result.1.bits w _ atom.width c.requires.atom)
-    (c.as_slice-ids.ensures ∙ c.in_ok-parts.ensures) c.args.nest.now c.args.l (tree_of nodes c.args.count) ?)
+    (c.as_slice-ids.ensures ∙ c.in_ok-parts.ensures) c.args.nest.now c.args.l (tree_of nodes c.args.count)
+    (is_other_kind c.args.w c.atom_at-kind.result.0 (kind.Rec c.args.l) (sym c.eq.ensures ∙ c.if-eq.false)))
     c.in_err-formed.ensures.parts
     (err_from_is_err_and c.from_residual-in_err-formed.result c.from_residual-in_err-formed.ensures.1)
 
@@ -420,7 +426,8 @@ atom_at_turn-returns-clause-tree t c =
     let told = c.in_ok-formed.ensures.parts in
     let leads = parts_lead nodes c.args.id k c.atom_at-kind.result.1.bits w c.atom_at-kind.result.2.now
     atom.is (one_width c.atom_at-kind.result.1.bits w _ atom.width c.requires.atom)
-    (c.as_slice-ids.ensures ∙ c.in_ok-parts.ensures) parents c.args.l (tree_of nodes c.args.count) ? in
+    (c.as_slice-ids.ensures ∙ c.in_ok-parts.ensures) parents c.args.l (tree_of nodes c.args.count)
+    (is_other_kind c.args.w k (kind.Rec c.args.l) (sym c.eq.ensures ∙ c.if-eq.false)) in
     told_same (IsAt c.reformed.new.arena w) _ _ c.reformed.result
     (ap (λ ids. forms.reformed parents w k (trees_at middle ids)) c.from_vec.ensures
     ∙ ap (forms.reformed parents w k) told.2.1
