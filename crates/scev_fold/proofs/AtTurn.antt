@@ -7,7 +7,6 @@ use Rattle.scev_tree.specs.Value.{tree_value}
 use Rattle.scev_arena.specs.declared.node.Node.{Node}
 use Rattle.scev_arena.specs.Meaning.{tree_of}
 use Rattle.scev_arena.specs.Standing.{IsArena, IsTreeAt}
-use Rattle.scev_forms.specs.Outcome.{Outcome, Done}
 use Rattle.scev_forms.specs.Turns.{at_turn, is_hindered, tree_at_turn}
 use Rattle.scev_forms.proofs.TurnValues.{turn_stands}
 use Rattle.scev_sums.specs.declared.error.FoldError.{FoldError}

@@ -4,7 +4,7 @@ use Rattle.std.proofs.lemmas.Bool.{eq-eqb, false≢true}
 use Rattle.scev_base.specs.declared.width.Width.{Width}
 use Rattle.scev_tree.specs.declared.kind.Kind.{Kind}
 use Rattle.scev_arena.specs.declared.node.Node.TheVariants as node
-use Rattle.scev_arena.specs.Nodes.{same_kind, same_node}
+use Rattle.scev_arena.specs.Nodes.{same_kind}
 use Rattle.scev_arena.specs.NodeLaws.{same_node_decides}
 
 module _ (w : Width) (k j : Kind) where

@@ -1,5 +1,5 @@
 -- How terms, factors and parts go to a turn one after another, over the places of an arena.
-use Rattle.std.proofs.Common.{◌≡◌, ℕ, ◌==◌, cond, List, [], ◌∷◌, ◌++◌, map, Option, refl, sym, ap, ◌∙◌, subst}
+use Rattle.std.proofs.Common.{◌≡◌, ℕ, cond, List, [], ◌∷◌, ◌++◌, map, Option, refl, sym, ap, ◌∙◌, subst}
 use Rattle.std.proofs.Common.{append_assoc}
 use Rattle.std.proofs.lemmas.Bool.{eq-eqb, ne_eqb}
 use Rattle.std.proofs.lemmas.List.{append-nil, map-append}
@@ -18,7 +18,7 @@ use Rattle.scev_forms.specs.Outcome.{Outcome, Done, next}
 use Rattle.scev_forms.specs.Sums.{tree_sum, tree_product}
 use Rattle.scev_forms.specs.Turns.{tree_at_turn, terms_at_turn, factors_at_turn, atom_at_turn, parts_at_turn}
 use Rattle.scev_forms.specs.Turns.{counted, reformed}
-use Rattle.scev_sums.specs.Answers.{GoesOn, IsAt, IsTreeOfAt, trees_at}
+use Rattle.scev_sums.specs.Answers.{GoesOn, IsAt, trees_at}
 use Rattle.scev_sums.proofs.Growth.{goes_on_again, same_tree_goes_on, tree_goes_on, same_factors_go_on}
 use Rattle.scev_sums.proofs.RecParts.{trees_again}
 use Rattle.scev_sums.proofs.Refusals.{LeadsOn, led_on}
@@ -62,15 +62,15 @@ pub product_turns : (parents : List (Option ℕ)) (l w n : ℕ) (old middle : Li
     → LeadsOn (factors_at_turn parents l now w (factors_at (meanings middle) slice) (tree_of middle start))
     (tree_sum parents w sum) (monomial_at_turn parents l count w (factors_at (meanings old) ids) n sum)
 product_turns parents l w n old middle {now} {count} {ids} {slice} start sum same grows atoms is at = record {
-      leads = ap (λ c. next (factors_at_turn parents l c w (factors_at (meanings middle) slice) (tree_of middle start))
-          (tree_sum parents w sum)) same
-          ∙ ap (λ x. next (factors_at_turn parents l count w (factors_at (meanings middle) x) (tree_of middle start))
-          (tree_sum parents w sum)) is
-          ∙ ap (λ tree. next (factors_at_turn parents l count w (factors_at (meanings middle) ids) tree)
-          (tree_sum parents w sum)) at.1
-          ∙ ap (λ f. next (factors_at_turn parents l count w f (constant w n)) (tree_sum parents w sum))
-          (same_factors_go_on old middle grows w ids atoms);
-    }
+  leads = ap (λ c. next (factors_at_turn parents l c w (factors_at (meanings middle) slice) (tree_of middle start))
+      (tree_sum parents w sum)) same
+      ∙ ap (λ x. next (factors_at_turn parents l count w (factors_at (meanings middle) x) (tree_of middle start))
+      (tree_sum parents w sum)) is
+      ∙ ap (λ tree. next (factors_at_turn parents l count w (factors_at (meanings middle) ids) tree)
+      (tree_sum parents w sum)) at.1
+      ∙ ap (λ f. next (factors_at_turn parents l count w f (constant w n)) (tree_sum parents w sum))
+      (same_factors_go_on old middle grows w ids atoms);
+}
 
 -- the terms that are left
 module _ (parents : List (Option ℕ)) (l w : ℕ) (count : Tree) (ts : List Term) {whole : Outcome Tree}

@@ -1,4 +1,3 @@
-use Rattle.std.proofs.Common.{Ok}
 use Rattle.std.proofs.lemmas.Result.{err_from_is_err_and}
 use Rattle.scev_tree.specs.Tree.{width_of}
 use Rattle.scev_arena.specs.Meaning.{tree_of}
