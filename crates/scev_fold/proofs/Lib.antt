@@ -1,1 +1,5 @@
+pub mod KindsCompared
 pub mod Countable
+pub mod SameParts
+pub mod Turning
+pub mod AtTurn

@@ -1,6 +1,6 @@
 //! The value of an expression at a turn of a loop.
 
-ghost use Rattle.std.specs.Prelude.{◌≡◌, ℕ, ◌∷◌, [], map, IfOk, IfSome};
+ghost use Rattle.std.specs.Prelude.{◌≡◌, map, IfOk, IfSome};
 ghost use Rattle.scev_tree.specs.Tree as tree;
 ghost use Rattle.scev_arena.specs.Meaning.{meanings, tree_of, atom_of, factors_at, terms_at};
 ghost use Rattle.scev_arena.specs.Standing.{IsTreeAt, IsAtomAt, AreTrees, AreAtoms, AreOverAtoms};
