@@ -1,1 +1,4 @@
 pub mod Countable
+pub mod SameParts
+pub mod Turning
+pub mod AtTurn
