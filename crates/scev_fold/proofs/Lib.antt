@@ -2,3 +2,4 @@ pub mod Countable
 pub mod SameParts
 pub mod Turning
 pub mod AtTurn
+pub mod Folding
