@@ -5,3 +5,4 @@ pub mod Turning
 pub mod AtTurn
 pub mod Folding
 pub mod Counting
+pub mod NextBinomial
