@@ -2,6 +2,8 @@
 use Rattle.std.proofs.Common.{◌≡◌, ℕ, zero, suc, ◌<◌, ◌≤◌, List, [], ◌∷◌, ◌++◌, length, get_or, drop, codes}
 use Rattle.std.proofs.Common.{refl, sym, ap, ◌∙◌, arith, append_assoc, drop-cons}
 use Rattle.std.proofs.lemmas.List.{append-nil}
+use Rattle.std.proofs.lemmas.Result.{on_ok_weaker}
+use Rattle.std.specs.Prelude.{Result, OnOk}
 use Rattle.ir_printer.proofs.Joined.{joined-cons}
 use Rattle.scev_text.specs.Text.{listed, each_behind, enclosed, constant_text, with_coefficient, monomial_text}
 
@@ -10,6 +12,12 @@ pub from_here : {A : Type 0} (xs : List A) (at next : ℕ) (d x : A) → next �
     → drop at xs ≡ x ∷ drop next xs
 from_here xs at next d x e within f =
     drop-cons xs at d within ∙ ap (λ y. y ∷ drop (suc at) xs) (sym f) ∙ ap (λ k. x ∷ drop k xs) (sym e)
+
+-- what is appended in the end is another name of the text
+pub hands_on : {T E : Type 0} (r : Result T E) (old new text told : List ℕ) → text ≡ told
+    → OnOk r (new ≡ old ++ text)
+    → OnOk r (new ≡ old ++ told)
+hands_on r old new text told e h = on_ok_weaker r (λ n. n ∙ ap (λ xs. old ++ xs) e) h
 
 -- ---- with a separator between them
 
@@ -64,13 +72,13 @@ enclosed-many between (x ∷ []) many = absurd (omega (arith, many))
 enclosed-many between (x ∷ y ∷ xs) many = refl
 
 -- two or more, written between parentheses
-pub enclosed_all : (between old open mid further new text : List ℕ) (texts : List (List ℕ)) → 1 ≤ length texts
-    → open ≡ old ++ 40 ∷ []
-    → mid ≡ open ++ text
+pub enclosed_all : (between old begun mid further new text : List ℕ) (texts : List (List ℕ)) → 1 ≤ length texts
+    → begun ≡ old ++ 40 ∷ []
+    → mid ≡ begun ++ text
     → further ≡ mid ++ each_behind between texts
     → new ≡ further ++ 41 ∷ []
     → new ≡ old ++ enclosed between (text ∷ texts)
-enclosed_all between old open mid further new text texts some o m f n =
+enclosed_all between old begun mid further new text texts some o m f n =
     let both : 1 < length (text ∷ texts) = omega (arith, some) in
     n
     ∙ ap (λ xs. xs ++ 41 ∷ []) (f ∙ ap (λ xs. xs ++ each_behind between texts) (m ∙ ap (λ xs. xs ++ text) o))
@@ -79,6 +87,32 @@ enclosed_all between old open mid further new text texts some o m f n =
     (sym (append_assoc text (each_behind between texts) (41 ∷ []))
     ∙ ap (λ xs. xs ++ 41 ∷ []) (sym (listed-cons between text texts)))
     ∙ ap (λ xs. old ++ xs) (sym (enclosed-many between (text ∷ texts) both))
+
+-- several in a list, written between parentheses
+pub enclosed_listed : (between old begun mid new : List ℕ) (texts : List (List ℕ)) → 1 < length texts
+    → begun ≡ old ++ 40 ∷ []
+    → mid ≡ begun ++ listed between texts
+    → new ≡ mid ++ 41 ∷ []
+    → new ≡ old ++ enclosed between texts
+enclosed_listed between old begun mid new texts many o m n =
+    n
+    ∙ ap (λ xs. xs ++ 41 ∷ []) (m ∙ ap (λ xs. xs ++ listed between texts) o)
+    ∙ simp append_assoc
+    ∙ ap (λ xs. old ++ xs) (sym (enclosed-many between texts many))
+
+-- a conversion, piece by piece
+pub cast_written : (old a b c d e f g new word from text to : List ℕ)
+    → a ≡ old ++ 40 ∷ []
+    → b ≡ a ++ word
+    → c ≡ b ++ from
+    → d ≡ c ++ 32 ∷ []
+    → e ≡ d ++ text
+    → f ≡ e ++ codes " to "
+    → g ≡ f ++ to
+    → new ≡ g ++ 41 ∷ []
+    → new ≡ old ++ (codes "(" ++ (word ++ (from ++ (32 ∷ (text ++ (codes " to " ++ (to ++ codes ")")))))))
+cast_written old a b c d e f g new word from text to ha hb hc hd he hf hg hn =
+    rw (hn, hg, hf, he, hd, hc, hb, ha) (simp append_assoc)
 
 -- ---- coefficients
 

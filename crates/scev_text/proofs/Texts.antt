@@ -5,35 +5,80 @@ use Rattle.scev_base.specs.declared.ids.BlockId.{BlockId}
 use Rattle.scev_base.specs.declared.ids.ExprId.{ExprId}
 use Rattle.scev_tree.specs.declared.kind.Kind.{Kind}
 use Rattle.scev_tree.specs.declared.kind.Kind.TheVariants as kind
-use Rattle.scev_tree.specs.Tree.{Tree, Terms, Factors, Atom, Parts, polynomial, atom, parts_of, no_parts, part}
+use Rattle.scev_tree.specs.Tree.{Tree, Terms, Factors, Atom, Parts, polynomial, atom, parts_of, width_of}
 use Rattle.scev_tree.specs.Canonical.{HasParts}
 use Rattle.poly_terms.specs.declared.term.Term.{Term}
 use Rattle.scev_arena.specs.declared.node.Node.{Node}
 use Rattle.scev_arena.specs.Meaning.{Meant, tree_of, atom_at, factors_at, terms_at}
-use Rattle.ir_grammar.specs.Printing.{Shown}
-use Rattle.scev_text.specs.Text.{enclosed, constant_text, sum_text, monomial_text, kind_text, part_width}
+use Rattle.scev_arena.proofs.NodesMeasured.{as_many_parts}
+use Rattle.ir_model.specs.declared.types.IrType.TheVariants.{Int}
+use Rattle.ir_grammar.specs.Printing.{Shown, type_text}
+use Rattle.scev_text.specs.Text.{enclosed, constant_text, sum_text, monomial_text, kind_text, cast_text, part_width}
 use Rattle.scev_text.specs.Text.{tree_text, terms_texts, factors_texts, atom_text, parts_texts}
-use Rattle.scev_text.proofs.Pieces.{from_here}
+use Rattle.scev_text.proofs.Pieces.{enclosed-one}
 
--- ---- the only part of a conversion
+-- ---- how many parts there are
 
-pub one_for_trunc : {A : Type 0} (f : A → Tree) (w : ℕ) (ids : List A)
-    → HasParts kind.Trunc w (parts_of (map f ids)) → length ids ≡ 1
-one_for_trunc f w [] h = absurd h
-one_for_trunc f w (x ∷ []) h = refl
-one_for_trunc f w (x ∷ y ∷ ids) h = absurd h
+-- kinds of one part, and those of two or more
+abbrev pub IsOfOne : Kind → Type 0
+IsOfOne kind.Trunc = Unit {0}
+IsOfOne kind.Zext = Unit {0}
+IsOfOne kind.Sext = Unit {0}
+IsOfOne _ = ⊥
 
-pub one_for_zext : {A : Type 0} (f : A → Tree) (w : ℕ) (ids : List A)
-    → HasParts kind.Zext w (parts_of (map f ids)) → length ids ≡ 1
-one_for_zext f w [] h = absurd h
-one_for_zext f w (x ∷ []) h = refl
-one_for_zext f w (x ∷ y ∷ ids) h = absurd h
+abbrev pub IsOfMany : Kind → Type 0
+IsOfMany kind.Trunc = ⊥
+IsOfMany kind.Zext = ⊥
+IsOfMany kind.Sext = ⊥
+IsOfMany (kind.Leaf register home) = ⊥
+IsOfMany _ = Unit {0}
 
-pub one_for_sext : {A : Type 0} (f : A → Tree) (w : ℕ) (ids : List A)
-    → HasParts kind.Sext w (parts_of (map f ids)) → length ids ≡ 1
-one_for_sext f w [] h = absurd h
-one_for_sext f w (x ∷ []) h = refl
-one_for_sext f w (x ∷ y ∷ ids) h = absurd h
+module _ (nodes : List Node) (w : ℕ) where
+  one_part_at : (k : Kind) (ids : List ExprId) → IsOfOne k → HasParts k w (parts_of (map (tree_of nodes) ids))
+      → length ids ≡ 1
+  one_part_at kind.Trunc [] of h = absurd h
+  one_part_at kind.Trunc (x ∷ []) of h = refl
+  one_part_at kind.Trunc (x ∷ y ∷ ids) of h = absurd h
+  one_part_at kind.Zext [] of h = absurd h
+  one_part_at kind.Zext (x ∷ []) of h = refl
+  one_part_at kind.Zext (x ∷ y ∷ ids) of h = absurd h
+  one_part_at kind.Sext [] of h = absurd h
+  one_part_at kind.Sext (x ∷ []) of h = refl
+  one_part_at kind.Sext (x ∷ y ∷ ids) of h = absurd h
+  one_part_at kind.Udiv ids of h = absurd of
+  one_part_at kind.Smax ids of h = absurd of
+  one_part_at kind.Umax ids of h = absurd of
+  one_part_at kind.Smin ids of h = absurd of
+  one_part_at kind.Umin ids of h = absurd of
+  one_part_at kind.Seq ids of h = absurd of
+  one_part_at (kind.Rec l) ids of h = absurd of
+  one_part_at (kind.Leaf register home) ids of h = absurd of
+
+  many_parts_at : (k : Kind) (ids : List ExprId) → IsOfMany k → HasParts k w (parts_of (map (tree_of nodes) ids))
+      → 1 < length ids
+  many_parts_at kind.Trunc ids of h = absurd of
+  many_parts_at kind.Zext ids of h = absurd of
+  many_parts_at kind.Sext ids of h = absurd of
+  many_parts_at kind.Udiv ids of h = omega (arith, h.0, as_many_parts nodes ids)
+  many_parts_at kind.Smax ids of h = omega (arith, h.0, as_many_parts nodes ids)
+  many_parts_at kind.Umax ids of h = omega (arith, h.0, as_many_parts nodes ids)
+  many_parts_at kind.Smin ids of h = omega (arith, h.0, as_many_parts nodes ids)
+  many_parts_at kind.Umin ids of h = omega (arith, h.0, as_many_parts nodes ids)
+  many_parts_at kind.Seq ids of h = omega (arith, h.0, as_many_parts nodes ids)
+  many_parts_at (kind.Rec l) ids of h = omega (arith, h.0, as_many_parts nodes ids)
+  many_parts_at (kind.Leaf register home) ids of h = absurd of
+
+  pub one_part : (k known : Kind) (ids : List ExprId) → k ≡ known → IsOfOne known
+      → HasParts k w (parts_of (map (tree_of nodes) ids))
+      → length ids ≡ 1
+  one_part k known ids is of h =
+      one_part_at known ids of (subst (λ (k : Kind). HasParts k w (parts_of (map (tree_of nodes) ids))) is h)
+
+  pub many_parts : (k known : Kind) (ids : List ExprId) → k ≡ known → IsOfMany known
+      → HasParts k w (parts_of (map (tree_of nodes) ids))
+      → 1 < length ids
+  many_parts k known ids is of h =
+      many_parts_at known ids of (subst (λ (k : Kind). HasParts k w (parts_of (map (tree_of nodes) ids))) is h)
 
 module _ (shown : Shown) (headers : List BlockId) where
   -- ---- what something is made of tells its text
@@ -66,12 +111,22 @@ module _ (shown : Shown) (headers : List BlockId) where
     parts_many [] = refl
     parts_many (id ∷ ids) = ap suc (parts_many ids)
 
-    -- the only part
-    pub part_alone : (id : ExprId) (ids : List ExprId) → length ids ≡ 1 → id ≡ get_or ids 0 id
-        → parts_of (map (tree_of nodes) ids) ≡ part (tree_of nodes id) no_parts
-    part_alone id [] one e = absurd (omega (arith, one))
-    part_alone id (x ∷ []) one e = ap (λ (y : ExprId). part (tree_of nodes y) no_parts) (sym e)
-    part_alone id (x ∷ y ∷ ids) one e = absurd (omega (arith, one))
+    -- a conversion of the only part
+    pub cast_told : (word : List ℕ) (from w : ℕ) (id : ExprId) (ids : List ExprId) → length ids ≡ 1
+        → id ≡ get_or ids 0 id
+        → from ≡ width_of (tree_of nodes id)
+        → codes "(" ++ (word ++ (type_text (Int from) ++ (32 ∷ (tree_text shown headers (tree_of nodes id)
+        ++ (codes " to " ++ (type_text (Int w) ++ codes ")"))))))
+        ≡ cast_text word (part_width (parts_of (map (tree_of nodes) ids))) w
+        (parts_texts shown headers (parts_of (map (tree_of nodes) ids)))
+    unfolding parts_texts
+    cast_told word from w id [] one e f = absurd (omega (arith, one))
+    cast_told word from w id (x ∷ []) one e f =
+        ap (λ n. codes "(" ++ (word ++ (type_text (Int n) ++ (32 ∷ (tree_text shown headers (tree_of nodes id)
+        ++ (codes " to " ++ (type_text (Int w) ++ codes ")"))))))) f
+        ∙ ap (λ (y : ExprId). cast_text word (width_of (tree_of nodes y)) w (tree_text shown headers (tree_of nodes y) ∷ []))
+        e
+    cast_told word from w id (x ∷ y ∷ ids) one e f = absurd (omega (arith, one))
 
   module _ (meant : List Meant) where
     -- ---- factors
@@ -100,3 +155,30 @@ module _ (shown : Shown) (headers : List BlockId) where
     unfolding terms_texts
     terms_many w [] = refl
     terms_many w (t ∷ ts) = ap suc (terms_many w ts)
+
+    -- ---- sums
+
+    pub sum_none : (tree : Tree) (w : ℕ) (ts : List Term) → tree ≡ polynomial w (terms_at meant ts) → ts ≡ []
+        → constant_text w 0 ≡ tree_text shown headers tree
+    unfolding terms_texts
+    sum_none tree w ts e none =
+        ap (λ (ts : List Term). sum_text w (terms_texts shown headers w (terms_at meant ts))) (sym none)
+        ∙ tree_told tree w (terms_at meant ts) e
+
+    pub sum_some : (tree : Tree) (w : ℕ) (t : Term) (others ts : List Term) → tree ≡ polynomial w (terms_at meant ts)
+        → ts ≡ t ∷ others
+        → enclosed (codes " + ") (monomial_text w t.coefficient (factors_texts shown headers (factors_at meant t.ids))
+        ∷ terms_texts shown headers w (terms_at meant others))
+        ≡ tree_text shown headers tree
+    sum_some tree w t others ts e split =
+        ap (sum_text w) (sym (terms_first w t others ts split)) ∙ tree_told tree w (terms_at meant ts) e
+
+    pub sum_one : (tree : Tree) (w : ℕ) (t : Term) (others ts : List Term) → tree ≡ polynomial w (terms_at meant ts)
+        → ts ≡ t ∷ others
+        → length others ≡ 0
+        → monomial_text w t.coefficient (factors_texts shown headers (factors_at meant t.ids))
+        ≡ tree_text shown headers tree
+    sum_one tree w t others ts e split none =
+        sym (enclosed-one (codes " + ") (monomial_text w t.coefficient (factors_texts shown headers
+        (factors_at meant t.ids))) (terms_texts shown headers w (terms_at meant others)) (terms_many w others ∙ none))
+        ∙ sum_some tree w t others ts e split

@@ -41,6 +41,7 @@ pub fn expr_text(
 
 /// Appends the text of an expression, as `expr_text` gives it.
 #[cycle(spelling)]
+#[tactic(none)]
 pub fn push_expr(
     out: &mut Vec<u8>,
     arena: &Arena,
@@ -67,6 +68,7 @@ pub fn push_expr(
 
 /// Appends further monomials of a sum, each behind ` + `. Their factors stand below a place.
 #[cycle(spelling)]
+#[tactic(none)]
 fn push_further_monomials(
     out: &mut Vec<u8>,
     arena: &Arena,
@@ -91,6 +93,7 @@ fn push_further_monomials(
 /// Appends a monomial: a constant, one factor, or the product of its coefficient and its factors, which stand below a
 /// place.
 #[cycle(spelling)]
+#[tactic(none)]
 fn push_monomial(
     out: &mut Vec<u8>,
     arena: &Arena,
@@ -120,6 +123,7 @@ fn push_monomial(
 
 /// Appends a factor as it is where there are no others, and else their product. They stand below a place.
 #[cycle(spelling)]
+#[tactic(none)]
 fn push_factors(
     out: &mut Vec<u8>,
     arena: &Arena,
@@ -149,6 +153,7 @@ fn push_factors(
 
 /// Appends further factors of a product, each behind ` * `. They stand below a place.
 #[cycle(spelling)]
+#[tactic(none)]
 fn push_further_factors(
     out: &mut Vec<u8>,
     arena: &Arena,
@@ -172,6 +177,7 @@ fn push_further_factors(
 
 /// Appends an atom.
 #[cycle(spelling)]
+#[tactic(none)]
 fn push_atom(
     out: &mut Vec<u8>,
     arena: &Arena,
@@ -201,6 +207,7 @@ fn push_atom(
 
 /// Appends a recurrence of a loop, with its parts and the loop's header. The parts stand below a place.
 #[cycle(spelling)]
+#[tactic(none)]
 fn push_recurrence(
     out: &mut Vec<u8>,
     arena: &Arena,
@@ -224,6 +231,7 @@ fn push_recurrence(
 
 /// Appends a conversion of its only part, with its word and both types. The part stands below a place.
 #[cycle(spelling)]
+#[tactic(none)]
 fn push_cast(
     out: &mut Vec<u8>,
     arena: &Arena,
@@ -254,6 +262,7 @@ fn push_cast(
 
 /// Appends two or more parts in parentheses, with a separator between them. They stand below a place.
 #[cycle(spelling)]
+#[tactic(none)]
 fn push_enclosed(
     out: &mut Vec<u8>,
     arena: &Arena,
@@ -276,6 +285,7 @@ fn push_enclosed(
 
 /// Appends parts, with a separator between them. They stand below a place.
 #[cycle(spelling)]
+#[tactic(none)]
 fn push_parts(
     out: &mut Vec<u8>,
     arena: &Arena,
@@ -299,6 +309,7 @@ fn push_parts(
 
 /// Appends further parts, each behind a separator. They stand below a place.
 #[cycle(spelling)]
+#[tactic(none)]
 fn push_further_parts(
     out: &mut Vec<u8>,
     arena: &Arena,
