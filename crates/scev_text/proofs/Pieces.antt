@@ -3,7 +3,7 @@ use Rattle.std.proofs.Common.{◌≡◌, ℕ, zero, suc, ◌<◌, ◌≤◌, Lis
 use Rattle.std.proofs.Common.{refl, sym, ap, ◌∙◌, arith, append_assoc, drop-cons}
 use Rattle.std.proofs.lemmas.List.{append-nil}
 use Rattle.std.proofs.lemmas.Result.{on_ok_weaker}
-use Rattle.std.specs.Prelude.{Result, OnOk}
+use Rattle.std.specs.Prelude.{Result, OnOk, Bool, true, false, ◌==◌}
 use Rattle.ir_printer.proofs.Joined.{joined-cons}
 use Rattle.scev_text.specs.Text.{listed, each_behind, enclosed, constant_text, with_coefficient, monomial_text}
 
@@ -18,6 +18,16 @@ pub hands_on : {T E : Type 0} (r : Result T E) (old new text told : List ℕ) �
     → OnOk r (new ≡ old ++ text)
     → OnOk r (new ≡ old ++ told)
 hands_on r old new text told e h = on_ok_weaker r (λ n. n ∙ ap (λ xs. old ++ xs) e) h
+
+-- ---- whether there are any
+
+pub is_none : (n : ℕ) (b : Bool) → b ≡ (n == 0) → b ≡ true → n ≡ 0
+is_none zero b e f = refl
+is_none (suc n) b e f = let no : ⊥ = cc in absurd no
+
+pub is_some : (n : ℕ) (b : Bool) → b ≡ (n == 0) → b ≡ false → 1 ≤ n
+is_some zero b e f = let no : ⊥ = cc in absurd no
+is_some (suc n) b e f = omega arith
 
 -- ---- with a separator between them
 
@@ -80,12 +90,13 @@ pub enclosed_all : (between old begun mid further new text : List ℕ) (texts : 
     → new ≡ old ++ enclosed between (text ∷ texts)
 enclosed_all between old begun mid further new text texts some o m f n =
     let both : 1 < length (text ∷ texts) = omega (arith, some) in
+    let rest = each_behind between texts in
+    let spread : (((old ++ 40 ∷ []) ++ text) ++ rest) ++ 41 ∷ [] ≡ old ++ (codes "(" ++ ((text ++ rest) ++ codes ")")) =
+    simp append_assoc in
     n
-    ∙ ap (λ xs. xs ++ 41 ∷ []) (f ∙ ap (λ xs. xs ++ each_behind between texts) (m ∙ ap (λ xs. xs ++ text) o))
-    ∙ simp append_assoc
-    ∙ ap (λ xs. old ++ (40 ∷ xs))
-    (sym (append_assoc text (each_behind between texts) (41 ∷ []))
-    ∙ ap (λ xs. xs ++ 41 ∷ []) (sym (listed-cons between text texts)))
+    ∙ ap (λ xs. xs ++ 41 ∷ []) (f ∙ ap (λ xs. xs ++ rest) (m ∙ ap (λ xs. xs ++ text) o))
+    ∙ spread
+    ∙ ap (λ xs. old ++ (codes "(" ++ (xs ++ codes ")"))) (sym (listed-cons between text texts))
     ∙ ap (λ xs. old ++ xs) (sym (enclosed-many between (text ∷ texts) both))
 
 -- several in a list, written between parentheses
@@ -95,9 +106,12 @@ pub enclosed_listed : (between old begun mid new : List ℕ) (texts : List (List
     → new ≡ mid ++ 41 ∷ []
     → new ≡ old ++ enclosed between texts
 enclosed_listed between old begun mid new texts many o m n =
+    let inner = listed between texts in
+    let spread : ((old ++ 40 ∷ []) ++ inner) ++ 41 ∷ [] ≡ old ++ (codes "(" ++ (inner ++ codes ")")) =
+    simp append_assoc in
     n
-    ∙ ap (λ xs. xs ++ 41 ∷ []) (m ∙ ap (λ xs. xs ++ listed between texts) o)
-    ∙ simp append_assoc
+    ∙ ap (λ xs. xs ++ 41 ∷ []) (m ∙ ap (λ xs. xs ++ inner) o)
+    ∙ spread
     ∙ ap (λ xs. old ++ xs) (sym (enclosed-many between texts many))
 
 -- a conversion, piece by piece

@@ -112,21 +112,21 @@ module _ (shown : Shown) (headers : List BlockId) where
     parts_many (id ∷ ids) = ap suc (parts_many ids)
 
     -- a conversion of the only part
-    pub cast_told : (word : List ℕ) (from w : ℕ) (id : ExprId) (ids : List ExprId) → length ids ≡ 1
-        → id ≡ get_or ids 0 id
+    pub cast_told : (word : List ℕ) (from w : ℕ) (d id : ExprId) (ids : List ExprId) → length ids ≡ 1
+        → id ≡ get_or ids 0 d
         → from ≡ width_of (tree_of nodes id)
         → codes "(" ++ (word ++ (type_text (Int from) ++ (32 ∷ (tree_text shown headers (tree_of nodes id)
         ++ (codes " to " ++ (type_text (Int w) ++ codes ")"))))))
         ≡ cast_text word (part_width (parts_of (map (tree_of nodes) ids))) w
         (parts_texts shown headers (parts_of (map (tree_of nodes) ids)))
     unfolding parts_texts
-    cast_told word from w id [] one e f = absurd (omega (arith, one))
-    cast_told word from w id (x ∷ []) one e f =
+    cast_told word from w d id [] one e f = absurd (omega (arith, one))
+    cast_told word from w d id (x ∷ []) one e f =
         ap (λ n. codes "(" ++ (word ++ (type_text (Int n) ++ (32 ∷ (tree_text shown headers (tree_of nodes id)
         ++ (codes " to " ++ (type_text (Int w) ++ codes ")"))))))) f
         ∙ ap (λ (y : ExprId). cast_text word (width_of (tree_of nodes y)) w (tree_text shown headers (tree_of nodes y) ∷ []))
         e
-    cast_told word from w id (x ∷ y ∷ ids) one e f = absurd (omega (arith, one))
+    cast_told word from w d id (x ∷ y ∷ ids) one e f = absurd (omega (arith, one))
 
   module _ (meant : List Meant) where
     -- ---- factors
@@ -158,12 +158,11 @@ module _ (shown : Shown) (headers : List BlockId) where
 
     -- ---- sums
 
-    pub sum_none : (tree : Tree) (w : ℕ) (ts : List Term) → tree ≡ polynomial w (terms_at meant ts) → ts ≡ []
+    pub sum_none : (tree : Tree) (w : ℕ) (ts : List Term) → tree ≡ polynomial w (terms_at meant ts) → length ts ≡ 0
         → constant_text w 0 ≡ tree_text shown headers tree
     unfolding terms_texts
-    sum_none tree w ts e none =
-        ap (λ (ts : List Term). sum_text w (terms_texts shown headers w (terms_at meant ts))) (sym none)
-        ∙ tree_told tree w (terms_at meant ts) e
+    sum_none tree w [] e none = tree_told tree w (terms_at meant []) e
+    sum_none tree w (t ∷ ts) e none = absurd (omega (arith, none))
 
     pub sum_some : (tree : Tree) (w : ℕ) (t : Term) (others ts : List Term) → tree ≡ polynomial w (terms_at meant ts)
         → ts ≡ t ∷ others

@@ -63,7 +63,8 @@ pub fn push_expr(
     out.push(b'(')?;
     push_monomial(out, arena, names, headers, w, id.0, first)?;
     push_further_monomials(out, arena, names, headers, w, id.0, others)?;
-    out.extend_from_slice(b")")
+    out.push(b')')?;
+    Ok(())
 }
 
 /// Appends further monomials of a sum, each behind ` + `. Their factors stand below a place.
@@ -118,7 +119,8 @@ fn push_monomial(
     out.push(b'(')?;
     push_constant(out, w, term.coefficient)?;
     push_further_factors(out, arena, names, headers, w, below, ids)?;
-    out.extend_from_slice(b")")
+    out.push(b')')?;
+    Ok(())
 }
 
 /// Appends a factor as it is where there are no others, and else their product. They stand below a place.
@@ -148,7 +150,8 @@ fn push_factors(
     out.push(b'(')?;
     push_atom(out, arena, names, headers, first)?;
     push_further_factors(out, arena, names, headers, w, below, others)?;
-    out.extend_from_slice(b")")
+    out.push(b')')?;
+    Ok(())
 }
 
 /// Appends further factors of a product, each behind ` * `. They stand below a place.
@@ -257,7 +260,8 @@ fn push_cast(
     push_expr(out, arena, names, headers, only)?;
     out.extend_from_slice(b" to ")?;
     push_integer_type(out, w)?;
-    out.extend_from_slice(b")")
+    out.push(b')')?;
+    Ok(())
 }
 
 /// Appends two or more parts in parentheses, with a separator between them. They stand below a place.
@@ -280,7 +284,8 @@ fn push_enclosed(
 {
     out.push(b'(')?;
     push_parts(out, arena, names, headers, between, below, parts)?;
-    out.extend_from_slice(b")")
+    out.push(b')')?;
+    Ok(())
 }
 
 /// Appends parts, with a separator between them. They stand below a place.
