@@ -2,6 +2,7 @@
 use Rattle.std.proofs.Common.{◌≡◌, ℕ, zero, suc, ◌<◌, ◌≤◌, List, [], ◌∷◌, ◌++◌, length, get_or, drop, codes}
 use Rattle.std.proofs.Common.{refl, sym, ap, ◌∙◌, arith, append_assoc, drop-cons}
 use Rattle.std.proofs.lemmas.List.{append-nil}
+use Rattle.std.proofs.lemmas.Bool.Decides.{nat_tests}
 use Rattle.std.proofs.lemmas.Result.{on_ok_weaker}
 use Rattle.std.specs.Prelude.{Result, OnOk, Bool, true, false, ◌==◌}
 use Rattle.ir_printer.proofs.Joined.{joined-cons}
@@ -22,12 +23,10 @@ hands_on r old new text told e h = on_ok_weaker r (λ n. n ∙ ap (λ xs. old ++
 -- ---- whether there are any
 
 pub is_none : (n : ℕ) (b : Bool) → b ≡ (n == 0) → b ≡ true → n ≡ 0
-is_none zero b e f = refl
-is_none (suc n) b e f = let no : ⊥ = cc in absurd no
+is_none n b e f = let h : (n == 0) ≡ true = sym e ∙ f in grind (arith, nat_tests)
 
 pub is_some : (n : ℕ) (b : Bool) → b ≡ (n == 0) → b ≡ false → 1 ≤ n
-is_some zero b e f = let no : ⊥ = cc in absurd no
-is_some (suc n) b e f = omega arith
+is_some n b e f = let h : (n == 0) ≡ false = sym e ∙ f in grind (arith, nat_tests)
 
 -- ---- with a separator between them
 

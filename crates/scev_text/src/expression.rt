@@ -41,7 +41,6 @@ pub fn expr_text(
 
 /// Appends the text of an expression, as `expr_text` gives it.
 #[cycle(spelling)]
-#[tactic(none)]
 pub fn push_expr(
     out: &mut Vec<u8>,
     arena: &Arena,
@@ -69,7 +68,6 @@ pub fn push_expr(
 
 /// Appends further monomials of a sum, each behind ` + `. Their factors stand below a place.
 #[cycle(spelling)]
-#[tactic(none)]
 fn push_further_monomials(
     out: &mut Vec<u8>,
     arena: &Arena,
@@ -94,7 +92,6 @@ fn push_further_monomials(
 /// Appends a monomial: a constant, one factor, or the product of its coefficient and its factors, which stand below a
 /// place.
 #[cycle(spelling)]
-#[tactic(none)]
 fn push_monomial(
     out: &mut Vec<u8>,
     arena: &Arena,
@@ -125,7 +122,6 @@ fn push_monomial(
 
 /// Appends a factor as it is where there are no others, and else their product. They stand below a place.
 #[cycle(spelling)]
-#[tactic(none)]
 fn push_factors(
     out: &mut Vec<u8>,
     arena: &Arena,
@@ -156,7 +152,6 @@ fn push_factors(
 
 /// Appends further factors of a product, each behind ` * `. They stand below a place.
 #[cycle(spelling)]
-#[tactic(none)]
 fn push_further_factors(
     out: &mut Vec<u8>,
     arena: &Arena,
@@ -180,7 +175,6 @@ fn push_further_factors(
 
 /// Appends an atom.
 #[cycle(spelling)]
-#[tactic(none)]
 fn push_atom(
     out: &mut Vec<u8>,
     arena: &Arena,
@@ -210,7 +204,6 @@ fn push_atom(
 
 /// Appends a recurrence of a loop, with its parts and the loop's header. The parts stand below a place.
 #[cycle(spelling)]
-#[tactic(none)]
 fn push_recurrence(
     out: &mut Vec<u8>,
     arena: &Arena,
@@ -234,7 +227,6 @@ fn push_recurrence(
 
 /// Appends a conversion of its only part, with its word and both types. The part stands below a place.
 #[cycle(spelling)]
-#[tactic(none)]
 fn push_cast(
     out: &mut Vec<u8>,
     arena: &Arena,
@@ -266,7 +258,6 @@ fn push_cast(
 
 /// Appends two or more parts in parentheses, with a separator between them. They stand below a place.
 #[cycle(spelling)]
-#[tactic(none)]
 fn push_enclosed(
     out: &mut Vec<u8>,
     arena: &Arena,
@@ -290,7 +281,6 @@ fn push_enclosed(
 
 /// Appends parts, with a separator between them. They stand below a place.
 #[cycle(spelling)]
-#[tactic(none)]
 fn push_parts(
     out: &mut Vec<u8>,
     arena: &Arena,
@@ -314,7 +304,6 @@ fn push_parts(
 
 /// Appends further parts, each behind a separator. They stand below a place.
 #[cycle(spelling)]
-#[tactic(none)]
 fn push_further_parts(
     out: &mut Vec<u8>,
     arena: &Arena,

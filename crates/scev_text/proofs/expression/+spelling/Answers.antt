@@ -1,7 +1,8 @@
-use Rattle.std.proofs.Common.{◌≡◌, ◌+◌, ◌++◌, ◌<◌, ◌≤◌, ℕ, ap, List, length, get_or, drop, refl, sym, subst, ◌∙◌, arith, add-one, codes}
+use Rattle.std.proofs.Common.{◌≡◌, ◌+◌, ◌++◌, ◌<◌, ◌≤◌, ℕ, ap, List, length, get_or, drop, map, refl, sym, subst, ◌∙◌, arith, add-one, codes}
 use Rattle.std.proofs.Common.{length-drop}
 use Rattle.scev_base.specs.declared.ids.ExprId.{ExprId}
 use Rattle.poly_terms.specs.declared.term.Term.{Term}
+use Rattle.scev_tree.specs.Tree.{parts_of}
 use Rattle.scev_arena.specs.Meaning.{meanings, tree_of, factors_at, terms_at}
 use Rattle.scev_arena.specs.Standing.{AreTrees, AreAtoms, AreOverAtoms}
 use Rattle.scev_walk.specs.Reading.{AreBelow, AreOverBelow}
@@ -9,7 +10,7 @@ use Rattle.scev_walk.proofs.Among.{tree_among, atom_among, term_among}
 use Rattle.scev_walk.proofs.Below.{below_among, over_below_among}
 use Rattle.ir_printer.specs.Shown.{shown}
 use Rattle.std.proofs.lemmas.Result.{on_ok_weaker}
-use Rattle.scev_text.specs.Text.{monomial_text, factors_texts}
+use Rattle.scev_text.specs.Text.{monomial_text, factors_texts, parts_texts}
 use Rattle.scev_text.proofs.Pieces.{hands_on, is_none, is_some, from_here, behind_next, behind_done, listed_all}
 use Rattle.scev_text.proofs.Pieces.{enclosed-one, enclosed_all, enclosed_listed, cast_written}
 use Rattle.scev_text.proofs.Pieces.{monomial-none, monomial-plain, monomial-many}
@@ -297,8 +298,10 @@ push_cast-returns t c =
 pub push_enclosed-returns : goal.push_enclosed-returns
 push_enclosed-returns t c =
     let ids = c.args.parts.now in
-    let length-is = parts_many (shown c.args.names.now) c.args.headers.now c.args.arena.now ids in
-    enclosed_listed c.args.between.now c.args.out.now.items _ _ _ _ (omega (arith, length-is, c.requires.several))
+    let texts = parts_texts (shown c.args.names.now) c.args.headers.now (parts_of (map (tree_of c.args.arena.now) ids)) in
+    let many : 1 < length texts =
+    omega (arith, parts_many (shown c.args.names.now) c.args.headers.now c.args.arena.now ids, c.requires.several) in
+    enclosed_listed c.args.between.now c.args.out.now.items _ _ _ texts many
     c.in_ok-push.ensures.items c.in_ok-push_parts.ensures c.in_ok-push-2.ensures.items
 
 -- ---- factors
@@ -324,7 +327,7 @@ push_factors-returns-then-is_empty t c =
 pub push_factors-returns : goal.push_factors-returns
 push_factors-returns t c =
     let many = factors_many (shown c.args.names.now) c.args.headers.now (meanings c.args.arena.now) c.args.others.now in
-    let some = is_some _ _ c.is_empty.ensures c.if-is_empty.false in
+    let some : 1 ≤ length c.args.others.now = is_some _ _ c.is_empty.ensures c.if-is_empty.false in
     enclosed_all (codes " * ") c.args.out.now.items _ _ _ _ _ _ (omega (arith, many, some)) c.in_ok-push.ensures.items
     c.in_ok-push_atom.ensures c.in_ok-push_further_factors.ensures c.in_ok-push-2.ensures.items
 
@@ -425,7 +428,7 @@ push_expr-returns t c =
     let headers = c.args.headers.now in
     let meant = meanings c.args.arena.now in
     let many = terms_many shown headers meant c.tree_at.result.0.bits c.in-Some.others.now in
-    let some = is_some _ _ c.is_empty.ensures c.if-is_empty.false in
+    let some : 1 ≤ length c.in-Some.others.now = is_some _ _ c.is_empty.ensures c.if-is_empty.false in
     enclosed_all (codes " + ") c.args.out.now.items _ _ _ _ _ _ (omega (arith, many, some)) c.in_ok-push.ensures.items
     c.in_ok-push_monomial.ensures c.in_ok-push_further_monomials.ensures c.in_ok-push-2.ensures.items
     ∙ ap (λ xs. c.args.out.now.items ++ xs)
