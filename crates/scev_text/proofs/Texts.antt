@@ -124,7 +124,8 @@ module _ (shown : Shown) (headers : List BlockId) where
     cast_told word from w d id (x ∷ []) one e f =
         ap (λ n. codes "(" ++ (word ++ (type_text (Int n) ++ (32 ∷ (tree_text shown headers (tree_of nodes id)
         ++ (codes " to " ++ (type_text (Int w) ++ codes ")"))))))) f
-        ∙ ap (λ (y : ExprId). cast_text word (width_of (tree_of nodes y)) w (tree_text shown headers (tree_of nodes y) ∷ []))
+        ∙ ap (λ (y : ExprId). cast_text word (width_of (tree_of nodes y)) w
+        (tree_text shown headers (tree_of nodes y) ∷ []))
         e
     cast_told word from w d id (x ∷ y ∷ ids) one e f = absurd (omega (arith, one))
 

@@ -84,8 +84,8 @@ kind_text shown headers (kind.Leaf register home) w from texts = 37 ∷ shown.va
 
 -- ---- trees
 
--- The text of an expression: registers and headers by the names that are shown of them, and the header of each loop by a
--- list.
+-- The text of an expression: registers and headers by the names that are shown of them, and the header of each loop by
+-- a list.
 unfoldable mutual
   pub tree_text : Shown → List BlockId → Tree → List ℕ
   tree_text shown headers (polynomial w terms) = sum_text w (terms_texts shown headers w terms)

@@ -17,8 +17,8 @@ use scev_tree::Kind;
 use scev_walk::{atom_at, tree_at, width};
 use std::alloc::{AllocError, Global};
 
-/// The text of an expression. A number is written by its signed reading, `true` or `false` at one bit; a register by the
-/// name that the printer shows; a sum as `(a + b)` and a product as `(-1 * x * y)`, without a coefficient of 1;
+/// The text of an expression. A number is written by its signed reading, `true` or `false` at one bit; a register by
+/// the name that the printer shows; a sum as `(a + b)` and a product as `(-1 * x * y)`, without a coefficient of 1;
 /// conversions as `(zext i32 x to i64)`, quotients as `(x /u y)`, minima as `(x umin y)`, sequential ones with
 /// `umin_seq`; and a recurrence as `{a,+,b}<%header>`, its loop's header at the loop's number in the list.
 ///

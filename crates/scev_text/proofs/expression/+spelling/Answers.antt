@@ -1,5 +1,5 @@
-use Rattle.std.proofs.Common.{◌≡◌, ◌+◌, ◌++◌, ◌<◌, ◌≤◌, ℕ, ap, List, length, get_or, drop, map, refl, sym, subst, ◌∙◌, arith, add-one, codes}
-use Rattle.std.proofs.Common.{length-drop}
+use Rattle.std.proofs.Common.{◌≡◌, ◌+◌, ◌++◌, ◌<◌, ◌≤◌, ℕ, ap, List, length, get_or, drop, map, refl, sym, subst, ◌∙◌}
+use Rattle.std.proofs.Common.{arith, add-one, codes, length-drop}
 use Rattle.scev_base.specs.declared.ids.ExprId.{ExprId}
 use Rattle.poly_terms.specs.declared.term.Term.{Term}
 use Rattle.scev_tree.specs.Tree.{parts_of}
@@ -140,7 +140,8 @@ push_parts-push_further_parts-requires t c =
 
 pub push_parts-returns : goal.push_parts-returns
 push_parts-returns t c =
-    let told = parts_first (shown c.args.names.now) c.args.headers.now c.args.arena.now _ _ _ c.in-Some.ensures.cases.0 in
+    let told = parts_first (shown c.args.names.now) c.args.headers.now c.args.arena.now _ _ _
+    c.in-Some.ensures.cases.0 in
     on_ok_weaker c.push_further_parts.result
     (λ n. listed_all c.args.between.now _ _ _ _ _ _ told c.in_ok-push_expr.ensures n)
     c.push_further_parts.ensures
@@ -298,7 +299,8 @@ push_cast-returns t c =
 pub push_enclosed-returns : goal.push_enclosed-returns
 push_enclosed-returns t c =
     let ids = c.args.parts.now in
-    let texts = parts_texts (shown c.args.names.now) c.args.headers.now (parts_of (map (tree_of c.args.arena.now) ids)) in
+    let texts = parts_texts (shown c.args.names.now) c.args.headers.now
+    (parts_of (map (tree_of c.args.arena.now) ids)) in
     let many : 1 < length texts =
     omega (arith, parts_many (shown c.args.names.now) c.args.headers.now c.args.arena.now ids, c.requires.several) in
     enclosed_listed c.args.between.now c.args.out.now.items _ _ _ texts many
@@ -336,9 +338,11 @@ push_factors-returns t c =
 pub push_monomial-returns-in_default : goal.push_monomial-returns-in_default
 push_monomial-returns-in_default t c =
     let ids = c.as_slice-ids.ensures in
-    let many = factors_many (shown c.args.names.now) c.args.headers.now (meanings c.args.arena.now) c.args.term.now.ids in
+    let many = factors_many (shown c.args.names.now) c.args.headers.now (meanings c.args.arena.now)
+    c.args.term.now.ids in
     hands_on c.push_constant.result _ _ _ _
-    (monomial-none c.args.w.bits c.args.term.now.coefficient _ (many ∙ ap length (sym ids) ∙ c.in_default.ensures.cases))
+    (monomial-none c.args.w.bits c.args.term.now.coefficient _
+    (many ∙ ap length (sym ids) ∙ c.in_default.ensures.cases))
     c.push_constant.ensures
 
 pub push_monomial-push_factors-requires : goal.push_monomial-push_factors-requires
