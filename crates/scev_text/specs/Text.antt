@@ -1,7 +1,8 @@
 -- The texts of expressions.
-use Rattle.std.specs.Prelude.{ℕ, ℤ, zero, suc, List, [], ◌∷◌, ◌++◌, Option, Some, None, slice_get, codes}
+use Rattle.std.specs.Prelude.{ℕ, pos, zero, suc, List, [], ◌∷◌, ◌++◌, Option, Some, None, slice_get, codes}
 use Rattle.std.specs.List.{flat_map}
 use Rattle.scev_base.specs.declared.ids.BlockId.{BlockId}
+use Rattle.scev_base.specs.declared.ids.LoopId.{LoopId}
 use Rattle.scev_tree.specs.declared.kind.Kind.{Kind}
 use Rattle.scev_tree.specs.declared.kind.Kind.TheVariants as kind
 use Rattle.scev_tree.specs.Tree.{Tree, Terms, Factors, Atom, Parts, polynomial, no_terms, term, no_factors, factor}
@@ -62,6 +63,11 @@ abbrev pub cast_text : List ℕ → ℕ → ℕ → List (List ℕ) → List ℕ
 cast_text word from w texts = codes "(" ++ (word ++ (type_text (Int from) ++ (32 ∷ (listed [] texts
     ++ (codes " to " ++ (type_text (Int w) ++ codes ")"))))))
 
+-- `{first,+,second}<%header>`
+abbrev pub recurrence_text : Shown → List BlockId → LoopId → List (List ℕ) → List ℕ
+recurrence_text shown headers loop texts = codes "{" ++ (listed (codes ",+,") texts
+    ++ (codes "}<" ++ (header_text shown (slice_get headers loop.0) ++ codes ">")))
+
 -- an atom of a width, of the width of its first part and the texts of its parts
 abbrev pub kind_text : Shown → List BlockId → Kind → ℕ → ℕ → List (List ℕ) → List ℕ
 kind_text shown headers kind.Trunc w from texts = cast_text (codes "trunc ") from w texts
@@ -73,14 +79,13 @@ kind_text shown headers kind.Umax w from texts = enclosed (codes " umax ") texts
 kind_text shown headers kind.Smin w from texts = enclosed (codes " smin ") texts
 kind_text shown headers kind.Umin w from texts = enclosed (codes " umin ") texts
 kind_text shown headers kind.Seq w from texts = enclosed (codes " umin_seq ") texts
-kind_text shown headers (kind.Rec loop) w from texts = codes "{" ++ (listed (codes ",+,") texts
-    ++ (codes "}<" ++ (header_text shown (slice_get headers loop.0) ++ codes ">")))
+kind_text shown headers (kind.Rec loop) w from texts = recurrence_text shown headers loop texts
 kind_text shown headers (kind.Leaf register home) w from texts = 37 ∷ shown.values register.0
 
 -- ---- trees
 
--- The text of an expression: registers and headers by the names that are shown of them, and the header of each loop by a
--- list.
+-- The text of an expression: registers and headers by the names that are shown of them, and the header of each loop by
+-- a list.
 unfoldable mutual
   pub tree_text : Shown → List BlockId → Tree → List ℕ
   tree_text shown headers (polynomial w terms) = sum_text w (terms_texts shown headers w terms)
