@@ -125,16 +125,16 @@ pub product_leads : (parents : List (Option ℕ)) (from w n : ℕ) {r : ℕ} (ol
     → LeadsOn (truncated_factors parents w (factors_at (meanings middle) slice) (tree_of middle start))
     (tree_sum parents w sum) (monomial_cut parents w (factors_at (meanings old) ids) n sum)
 product_leads parents from w n old middle {ids} {slice} start sum grows atoms is value some at = record {
-      leads = ap (λ l. next (truncated_factors parents w (factors_at (meanings middle) l) (tree_of middle start))
-          (tree_sum parents w sum)) is
-          ∙ ap (λ tree. next (truncated_factors parents w (factors_at (meanings middle) ids) tree)
-          (tree_sum parents w sum)) at.1
-          ∙ ap (λ f. next (truncated_factors parents w f (constant w n)) (tree_sum parents w sum))
-          (same_factors_go_on old middle grows from ids atoms)
-          ∙ sym (ap (λ b. cond b (Done sum)
-          (next (truncated_factors parents w (factors_at (meanings old) ids) (constant w n)) (tree_sum parents w sum)))
-          (some_number value some));
-    }
+  leads = ap (λ l. next (truncated_factors parents w (factors_at (meanings middle) l) (tree_of middle start))
+      (tree_sum parents w sum)) is
+      ∙ ap (λ tree. next (truncated_factors parents w (factors_at (meanings middle) ids) tree)
+      (tree_sum parents w sum)) at.1
+      ∙ ap (λ f. next (truncated_factors parents w f (constant w n)) (tree_sum parents w sum))
+      (same_factors_go_on old middle grows from ids atoms)
+      ∙ sym (ap (λ b. cond b (Done sum)
+      (next (truncated_factors parents w (factors_at (meanings old) ids) (constant w n)) (tree_sum parents w sum)))
+      (some_number value some));
+}
 
 -- ---- a tree so far
 

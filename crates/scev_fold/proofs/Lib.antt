@@ -3,3 +3,4 @@ pub mod Countable
 pub mod SameParts
 pub mod Turning
 pub mod AtTurn
+pub mod Folding

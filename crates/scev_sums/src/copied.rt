@@ -14,7 +14,11 @@ use sqlite_items::Items;
 use std::alloc::{AllocError, Global};
 
 /// The width of a tree and its terms, in a list of their own.
-pub fn copied_terms(alloc: Global, arena: &Arena, id: ExprId) -> Result<(Width, Items<Term>), AllocError>
+pub fn copied_terms(
+    alloc: Global,
+    arena: &Arena,
+    id: ExprId,
+) -> Result<(Width, Items<Term>), AllocError>
     requires { IsTreeAt arena.now id }
     ensures tree { IfOk result (λ both.
         tree_of arena.now id ≡ tree.polynomial both.0.bits (terms_at (meanings arena.now) both.1)) }

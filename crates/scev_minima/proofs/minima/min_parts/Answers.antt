@@ -12,7 +12,7 @@ use Rattle.scev_minima.proofs.minima.min_parts.Goals.{After-deref, then-is_empty
 use Rattle.scev_minima.proofs.minima.min_parts.Goals.{else-n-neutral-via-else-n-neutral}
 use Rattle.scev_minima.proofs.minima.min_parts.Goals.{else-n-neutral-via-then-n-neutral+else-n-absorbing}
 use Rattle.scev_minima.proofs.minima.min_parts.Goals.{
-  else-n-neutral-via-then-n-neutral+then-n-absorbing+else-not-is_empty
+  else-n-neutral-via-then-n-neutral+then-n-absorbing+else-not-is_empty,
 }
 
 pub with_tree-requires-clause-trees : goal.with_tree-requires-clause-trees

@@ -8,6 +8,7 @@ use Rattle.scev_sums.specs.Answers.{trees_at}
 use Rattle.scev_sums.proofs.Held.{are_trees, have_width, as_many_parts}
 use Rattle.scev_minima.proofs.Flattening.{takes_many}
 use Rattle.scev_minima.proofs.minima.of_parts.Goals as goal
+
 -- there is one, and not one alone
 two_or_more : (ids : List ExprId) → (ids ≡ [] → ⊥) → (length ids ≡ 1 → ⊥) → 2 ≤ length ids
 two_or_more [] some other = absurd (some refl)
