@@ -4,3 +4,4 @@ pub mod SameParts
 pub mod Turning
 pub mod AtTurn
 pub mod Folding
+pub mod Reforming
