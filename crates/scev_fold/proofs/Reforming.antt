@@ -1,6 +1,6 @@
 -- The parts of an atom that is formed anew, and what is formed of them, by its kind.
-use Rattle.std.proofs.Common.{◌≡◌, ℕ, ◌<◌, ◌≤◌, List, [], ◌∷◌, length, get_or, drop, Option, refl, sym, ap, ◌∙◌, subst}
-use Rattle.std.proofs.Common.{arith, cond, false}
+use Rattle.std.proofs.Common.{◌≡◌, ℕ, ◌<◌, ◌≤◌, List, [], ◌∷◌, length, get_or, drop}
+use Rattle.std.proofs.Common.{Option, refl, ap, arith, cond, false}
 use Rattle.std.proofs.lemmas.Bool.{ne_eqb}
 use Rattle.scev_base.specs.declared.ids.ExprId.{ExprId}
 use Rattle.scev_base.specs.declared.ids.LoopId.{LoopId}
