@@ -6,3 +6,4 @@ pub mod AtTurn
 pub mod Folding
 pub mod Counting
 pub mod NextBinomial
+pub mod Reforming

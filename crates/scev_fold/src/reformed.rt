@@ -33,25 +33,18 @@ pub(crate) fn reformed(
     ensures tree { Tells (IsAt arena.new w.bits)
         (forms.reformed nest.now w.bits kind (trees_at arena.old parts)) result }
 {
-    match (kind, parts.as_slice()) {
-        (Kind::Trunc, [only]) => make_trunc(alloc, arena, nest, *only, w),
-        (Kind::Zext, [only]) => make_zext(alloc, arena, nest, *only, w, false),
-        (Kind::Sext, [only]) => make_sext(alloc, arena, nest, *only, w, false),
-        (Kind::Udiv, [left, right]) => make_udiv(alloc, arena, nest, *left, *right),
-        (Kind::Smax, [first, others @ ..]) => {
-            minimum_of_all(alloc, arena, nest, MinKind::Smax, w, *first, others)
-        }
-        (Kind::Umax, [first, others @ ..]) => {
-            minimum_of_all(alloc, arena, nest, MinKind::Umax, w, *first, others)
-        }
-        (Kind::Smin, [first, others @ ..]) => {
-            minimum_of_all(alloc, arena, nest, MinKind::Smin, w, *first, others)
-        }
-        (Kind::Umin, [first, others @ ..]) => {
-            minimum_of_all(alloc, arena, nest, MinKind::Umin, w, *first, others)
-        }
-        (Kind::Seq, [first, others @ ..]) => sequence_of_all(alloc, arena, nest, w, *first, others),
-        (Kind::Rec(l), parts) => make_rec(alloc, arena, w, l, parts),
-        _ => Ok(tree_of_atom(alloc, arena, kind, w, parts)?),
+    let ids = parts.as_slice();
+    match kind {
+        Kind::Trunc => make_trunc(alloc, arena, nest, ids[0], w),
+        Kind::Zext => make_zext(alloc, arena, nest, ids[0], w, false),
+        Kind::Sext => make_sext(alloc, arena, nest, ids[0], w, false),
+        Kind::Udiv => make_udiv(alloc, arena, nest, ids[0], ids[1]),
+        Kind::Smax => minimum_of_all(alloc, arena, nest, MinKind::Smax, w, ids[0], &ids[1..]),
+        Kind::Umax => minimum_of_all(alloc, arena, nest, MinKind::Umax, w, ids[0], &ids[1..]),
+        Kind::Smin => minimum_of_all(alloc, arena, nest, MinKind::Smin, w, ids[0], &ids[1..]),
+        Kind::Umin => minimum_of_all(alloc, arena, nest, MinKind::Umin, w, ids[0], &ids[1..]),
+        Kind::Seq => sequence_of_all(alloc, arena, nest, w, ids[0], &ids[1..]),
+        Kind::Rec(l) => make_rec(alloc, arena, w, l, ids),
+        Kind::Leaf(..) => Ok(tree_of_atom(alloc, arena, kind, w, parts)?),
     }
 }
