@@ -1,4 +1,4 @@
-//! Expressions, each formed and written.
+//! Expressions, each formed by steps and written.
 
 use scev_base::Width;
 use scev_calculator::{Calculator, CalculatorError, Step};
@@ -7,19 +7,22 @@ use std::alloc::Global;
 const WORD: Width = Width { bits: 32 };
 
 /// The text of what the steps form at 32 bits.
-pub(crate) fn text_of(alloc: Global, steps: &[Step]) -> Result<Vec<u8>, CalculatorError> {
+fn text_of(alloc: Global, steps: &[Step]) -> Result<Vec<u8>, CalculatorError> {
     let mut calculator = Calculator::new(alloc)?;
     let id = calculator.carry_out(WORD, steps)?;
     calculator.text(id)
 }
 
-/// Why nothing is formed of the steps at 32 bits. None where something is.
-pub(crate) fn error_of(alloc: Global, steps: &[Step]) -> Option<CalculatorError> {
-    text_of(alloc, steps).err()
-}
-
-/// Whether the steps form what is written so at 32 bits.
+/// Whether the steps form at 32 bits what is written so.
 pub(crate) fn forms(alloc: Global, steps: &[Step], text: &str) -> Result<bool, CalculatorError> {
     let formed = text_of(alloc, steps)?;
     Ok(formed.as_slice() == text.as_bytes())
+}
+
+/// Why the steps form nothing at 32 bits. None where they form something.
+pub(crate) fn error_of(alloc: Global, steps: &[Step]) -> Option<CalculatorError> {
+    match text_of(alloc, steps) {
+        Ok(_) => None,
+        Err(error) => Some(error),
+    }
 }

@@ -73,25 +73,13 @@ impl Calculator {
     /// The sum of two expressions.
     pub fn sum(&mut self, left: ExprId, right: ExprId) -> Result<ExprId, CalculatorError> {
         alike(&self.arena, left, right)?;
-        Ok(make_sum(
-            self.alloc,
-            &mut self.arena,
-            &self.nest,
-            left,
-            right,
-        )?)
+        Ok(make_sum(self.alloc, &mut self.arena, &self.nest, left, right)?)
     }
 
     /// The product of two expressions.
     pub fn product(&mut self, left: ExprId, right: ExprId) -> Result<ExprId, CalculatorError> {
         alike(&self.arena, left, right)?;
-        Ok(make_product(
-            self.alloc,
-            &mut self.arena,
-            &self.nest,
-            left,
-            right,
-        )?)
+        Ok(make_product(self.alloc, &mut self.arena, &self.nest, left, right)?)
     }
 
     /// The recurrence of the loop with these parts.
@@ -106,13 +94,7 @@ impl Calculator {
     /// The lowest bits.
     pub fn trunc(&mut self, id: ExprId, to: Width) -> Result<ExprId, CalculatorError> {
         at_least(&self.arena, id, to)?;
-        Ok(make_trunc(
-            self.alloc,
-            &mut self.arena,
-            &self.nest,
-            id,
-            to,
-        )?)
+        Ok(make_trunc(self.alloc, &mut self.arena, &self.nest, id, to)?)
     }
 
     /// The extension without sign.
@@ -123,14 +105,7 @@ impl Calculator {
         no_wrap: bool,
     ) -> Result<ExprId, CalculatorError> {
         at_most(&self.arena, id, to)?;
-        Ok(make_zext(
-            self.alloc,
-            &mut self.arena,
-            &self.nest,
-            id,
-            to,
-            no_wrap,
-        )?)
+        Ok(make_zext(self.alloc, &mut self.arena, &self.nest, id, to, no_wrap)?)
     }
 
     /// The extension with sign.
@@ -141,26 +116,13 @@ impl Calculator {
         no_wrap: bool,
     ) -> Result<ExprId, CalculatorError> {
         at_most(&self.arena, id, to)?;
-        Ok(make_sext(
-            self.alloc,
-            &mut self.arena,
-            &self.nest,
-            id,
-            to,
-            no_wrap,
-        )?)
+        Ok(make_sext(self.alloc, &mut self.arena, &self.nest, id, to, no_wrap)?)
     }
 
     /// The unsigned quotient of two expressions.
     pub fn udiv(&mut self, left: ExprId, right: ExprId) -> Result<ExprId, CalculatorError> {
         alike(&self.arena, left, right)?;
-        Ok(make_udiv(
-            self.alloc,
-            &mut self.arena,
-            &self.nest,
-            left,
-            right,
-        )?)
+        Ok(make_udiv(self.alloc, &mut self.arena, &self.nest, left, right)?)
     }
 
     /// The minimum or maximum of two expressions.
@@ -171,40 +133,20 @@ impl Calculator {
         right: ExprId,
     ) -> Result<ExprId, CalculatorError> {
         alike(&self.arena, left, right)?;
-        Ok(make_min(
-            self.alloc,
-            &mut self.arena,
-            &self.nest,
-            kind,
-            left,
-            right,
-        )?)
+        Ok(make_min(self.alloc, &mut self.arena, &self.nest, kind, left, right)?)
     }
 
     /// The sequential minimum of two expressions.
     pub fn umin_seq(&mut self, first: ExprId, second: ExprId) -> Result<ExprId, CalculatorError> {
         alike(&self.arena, first, second)?;
-        Ok(make_umin_seq(
-            self.alloc,
-            &mut self.arena,
-            &self.nest,
-            first,
-            second,
-        )?)
+        Ok(make_umin_seq(self.alloc, &mut self.arena, &self.nest, first, second)?)
     }
 
     /// The value of an expression once the loop is at the turn that the count is.
     pub fn at_turn(&mut self, id: ExprId, count: ExprId) -> Result<ExprId, CalculatorError> {
         tree(&self.arena, id)?;
         tree(&self.arena, count)?;
-        let found = at_turn(
-            self.alloc,
-            &mut self.arena,
-            &self.nest,
-            id,
-            LOOP,
-            count,
-        )?;
+        let found = at_turn(self.alloc, &mut self.arena, &self.nest, id, LOOP, count)?;
         found.ok_or(CalculatorError::Hindered)
     }
 
@@ -218,12 +160,6 @@ impl Calculator {
     pub fn text(&self, id: ExprId) -> Result<Vec<u8>, CalculatorError> {
         tree(&self.arena, id)?;
         let names = Names::of(self.alloc, &[], &self.sheet)?;
-        Ok(expr_text(
-            self.alloc,
-            &self.arena,
-            &names,
-            &[BlockId(0)],
-            id,
-        )?)
+        Ok(expr_text(self.alloc, &self.arena, &names, &[BlockId(0)], id)?)
     }
 }
