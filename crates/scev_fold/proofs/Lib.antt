@@ -1,0 +1,9 @@
+pub mod KindsCompared
+pub mod Countable
+pub mod SameParts
+pub mod Turning
+pub mod AtTurn
+pub mod Folding
+pub mod Counting
+pub mod NextBinomial
+pub mod Reforming

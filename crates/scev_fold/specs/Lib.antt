@@ -1,0 +1,3 @@
+pub mod Hindered
+pub mod Binomials
+pub mod Turns
