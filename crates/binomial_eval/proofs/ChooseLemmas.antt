@@ -39,7 +39,7 @@ one_less n k c none =
     ]
 
 -- to choose one more thing: any of those that are left, in any place
-choose_one_more : (n k : ℕ) → choose n (suc k) * suc k ≡ choose n k * (n - k)
+pub choose_one_more : (n k : ℕ) → choose n (suc k) * suc k ≡ choose n k * (n - k)
 choose_one_more zero k =
     let none : 0 - k ≡ 0 = omega arith in
     rw (zero_choose (suc k) (omega arith), none) (omega arith)
