@@ -70,7 +70,7 @@ parts_counted parents w (part tree parts) trees h =
 -- ---- kinds
 
 -- the kinds of casts
-pub abbrev IsCast : Kind → Type 0
+abbrev pub IsCast : Kind → Type 0
 IsCast kind.Trunc = Unit {0}
 IsCast kind.Zext = Unit {0}
 IsCast kind.Sext = Unit {0}
