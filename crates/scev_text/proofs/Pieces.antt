@@ -56,6 +56,11 @@ pub behind_done : (before old out : List ℕ) (left : List (List ℕ)) → lengt
 behind_done before old out [] none h = sym (append-nil out) ∙ h
 behind_done before old out (x ∷ xs) none h = absurd (omega (arith, none))
 
+-- there are none to write
+pub listed_none : (between old : List ℕ) (texts : List (List ℕ)) → length texts ≡ 0 → old ≡ old ++ listed between texts
+listed_none between old [] none = sym (append-nil old)
+listed_none between old (x ∷ xs) none = absurd (omega (arith, none))
+
 -- the first one is written, and then the others
 pub listed_all : (between old mid new text : List ℕ) (texts all : List (List ℕ)) → all ≡ text ∷ texts
     → mid ≡ old ++ text
