@@ -6,7 +6,7 @@ use Rattle.std.proofs.lemmas.Bool.Decides.{nat_tests}
 use Rattle.std.proofs.lemmas.Result.{on_ok_weaker}
 use Rattle.std.specs.Prelude.{Result, OnOk, Bool, true, false, ◌==◌}
 use Rattle.ir_printer.proofs.Joined.{joined-cons}
-use Rattle.scev_text.specs.Text.{listed, each_behind, enclosed, constant_text, with_coefficient, monomial_text}
+use Rattle.scev_text.specs.Text.{listed, each_behind, enclosed, constant_text, monomial_text}
 
 -- a list from one item on
 pub from_here : {A : Type 0} (xs : List A) (at next : ℕ) (d x : A) → next ≡ suc at → at < length xs → x ≡ get_or xs at d

@@ -1,9 +1,8 @@
-use Rattle.std.proofs.Common.{◌≡◌, ◌+◌, ◌++◌, ◌<◌, ◌≤◌, ℕ, ap, List, length, get_or, drop, map, refl, sym, subst, ◌∙◌}
+use Rattle.std.proofs.Common.{◌+◌, ◌++◌, ◌<◌, ◌≤◌, ℕ, ap, List, length, get_or, drop, map, refl, sym, subst, ◌∙◌}
 use Rattle.std.proofs.Common.{arith, add-one, codes, length-drop}
 use Rattle.scev_base.specs.declared.ids.ExprId.{ExprId}
-use Rattle.poly_terms.specs.declared.term.Term.{Term}
 use Rattle.scev_tree.specs.Tree.{parts_of}
-use Rattle.scev_arena.specs.Meaning.{meanings, tree_of, factors_at, terms_at}
+use Rattle.scev_arena.specs.Meaning.{meanings, tree_of, factors_at}
 use Rattle.scev_arena.specs.Standing.{AreTrees, AreAtoms, AreOverAtoms}
 use Rattle.scev_walk.specs.Reading.{AreBelow, AreOverBelow}
 use Rattle.scev_walk.proofs.Among.{tree_among, atom_among, term_among}
