@@ -20,6 +20,7 @@ use Rattle.scev_forms.specs.Quotients.{tree_quotient}
 use Rattle.scev_forms.specs.Sums.{recurrence_of}
 use Rattle.scev_forms.specs.Minima.{IsMinimum}
 use Rattle.scev_forms.specs.Turns.{minimum_of_all, sequence_of_all, reformed}
+use Rattle.scev_forms.proofs.Extensions.{IsExtension}
 use Rattle.scev_walk.proofs.Among.{tree_among}
 use Rattle.scev_walk.proofs.Walking.{count_of_parts}
 use Rattle.scev_sums.specs.Answers.{AreTreesOfAt, trees_at}
@@ -71,21 +72,16 @@ module _ (nodes : List Node) (w : ℕ) (parents : List (Option ℕ)) (d : ExprId
   of_trunc (id ∷ []) has = refl
   of_trunc (id ∷ other ∷ ids) has = absurd has
 
-  of_zext : (ids : List ExprId) → HasParts kind.Zext w (parts_of (trees_at nodes ids))
-      → extended_when kind.Zext w false (tree_of nodes (get_or ids 0 d))
-      ≡ reformed parents w kind.Zext (trees_at nodes ids)
+  of_extension : (k : Kind) (ids : List ExprId) → IsExtension k → HasParts k w (parts_of (trees_at nodes ids))
+      → extended_when k w false (tree_of nodes (get_or ids 0 d)) ≡ reformed parents w k (trees_at nodes ids)
   unfolding reformed
-  of_zext [] has = absurd has
-  of_zext (id ∷ []) has = narrower_extended kind.Zext w (tree_of nodes id) has
-  of_zext (id ∷ other ∷ ids) has = absurd has
-
-  of_sext : (ids : List ExprId) → HasParts kind.Sext w (parts_of (trees_at nodes ids))
-      → extended_when kind.Sext w false (tree_of nodes (get_or ids 0 d))
-      ≡ reformed parents w kind.Sext (trees_at nodes ids)
-  unfolding reformed
-  of_sext [] has = absurd has
-  of_sext (id ∷ []) has = narrower_extended kind.Sext w (tree_of nodes id) has
-  of_sext (id ∷ other ∷ ids) has = absurd has
+  of_extension kind.Zext [] is has = absurd has
+  of_extension kind.Zext (id ∷ []) is has = narrower_extended kind.Zext w (tree_of nodes id) has
+  of_extension kind.Zext (id ∷ other ∷ ids) is has = absurd has
+  of_extension kind.Sext [] is has = absurd has
+  of_extension kind.Sext (id ∷ []) is has = narrower_extended kind.Sext w (tree_of nodes id) has
+  of_extension kind.Sext (id ∷ other ∷ ids) is has = absurd has
+  of_extension _ ids is has = absurd is
 
   of_quotient : (ids : List ExprId) → length ids ≡ 2
       → tree_quotient w (tree_of nodes (get_or ids 0 d)) (tree_of nodes (get_or ids 1 d))
@@ -119,11 +115,12 @@ of_recurrence : (parents : List (Option ℕ)) (w : ℕ) (l : LoopId) (trees : Li
 unfolding reformed
 of_recurrence parents w l trees = refl
 
-of_leaf : (parents : List (Option ℕ)) (w : ℕ) {k : Kind} {register : ValueId} {loop : Option LoopId} (trees : List Tree)
+-- an atom that has no parts is itself
+pub leaf_formed : (parents : List (Option ℕ)) (w : ℕ) {k : Kind} {register : ValueId} {loop : Option LoopId} (trees : List Tree)
     → k ≡ kind.Leaf register loop
     → reformed parents w k trees ≡ Done (of_atom w (atom k w (parts_of trees)))
 unfolding reformed
-of_leaf parents w trees e =
+leaf_formed parents w trees e =
     subst (λ i. reformed parents w i trees ≡ Done (of_atom w (atom i w (parts_of trees)))) (sym e) refl
 
 -- ---- an atom whose parts are read
@@ -131,96 +128,85 @@ of_leaf parents w trees e =
 module _ (nodes : List Node) (w : ℕ) (k : Kind) {slice there : List ExprId}
     (has : HasParts k w (parts_of (trees_at nodes there))) (same : slice ≡ there)
   where
-  -- its parts, where its kind is known
-  parts_read : {j : Kind} → k ≡ j → HasParts j w (parts_of (trees_at nodes slice))
-  parts_read {j} e =
-      subst (λ i. HasParts i w (parts_of (trees_at nodes slice))) e
-      (subst (λ ids. HasParts k w (parts_of (trees_at nodes ids))) (sym same) has)
+    -- its parts, where its kind is known
+    parts_read : {j : Kind} → k ≡ j → HasParts j w (parts_of (trees_at nodes slice))
+    parts_read {j} e =
+        subst (λ i. HasParts i w (parts_of (trees_at nodes slice))) e
+        (subst (λ ids. HasParts k w (parts_of (trees_at nodes ids))) (sym same) has)
 
-  -- there are two or more
-  pub two_parts : {j : Kind} → k ≡ j → HasWideParts j → 1 < length slice
-  two_parts {j} e wide =
-      let many = (several_wide w j (parts_of (trees_at nodes slice)) wide (parts_read e)).0 in
-      omega (arith, many, count_of_parts nodes slice)
+    -- there are two or more
+    pub two_parts : {j : Kind} → k ≡ j → HasWideParts j → 1 < length slice
+    two_parts {j} e wide =
+        let many = (several_wide w j (parts_of (trees_at nodes slice)) wide (parts_read e)).0 in
+        omega (arith, many, count_of_parts nodes slice)
 
-  module _ (trees : AreTrees nodes there) where
-    pub second_tree : (d : ExprId) → k ≡ kind.Udiv → IsTreeAt nodes (get_or slice 1 d)
-    second_tree d e =
-        tree_among nodes slice 1 d (get_or slice 1 d) (subst (AreTrees nodes) (sym same) trees) (two_parts e tt) refl
+    module _ (trees : AreTrees nodes there) where
+      pub second_tree : (d : ExprId) → k ≡ kind.Udiv → IsTreeAt nodes (get_or slice 1 d)
+      second_tree d e =
+          tree_among nodes slice 1 d (get_or slice 1 d) (subst (AreTrees nodes) (sym same) trees) (two_parts e tt) refl
 
-    -- each has the width
-    pub each_wide : {j : Kind} → k ≡ j → HasWideParts j → AreTreesOfAt nodes w slice
-    each_wide {j} e wide =
-        wide_parts nodes w slice (subst (AreTrees nodes) (sym same) trees)
-        (several_wide w j (parts_of (trees_at nodes slice)) wide (parts_read e)).1
+      -- each has the width
+      pub each_wide : {j : Kind} → k ≡ j → HasWideParts j → AreTreesOfAt nodes w slice
+      each_wide {j} e wide =
+          wide_parts nodes w slice (subst (AreTrees nodes) (sym same) trees)
+          (several_wide w j (parts_of (trees_at nodes slice)) wide (parts_read e)).1
 
-    -- so have all but the first
-    pub others_wide : {j : Kind} → k ≡ j → HasWideParts j
-        → AreTreesOfAt nodes w (take (length slice - 1) (drop 1 slice))
-    others_wide e wide =
-        subst (AreTreesOfAt nodes w) (sym (take_rest slice 1)) (after_first nodes w slice (each_wide e wide))
+      -- so have all but the first
+      pub others_wide : {j : Kind} → k ≡ j → HasWideParts j
+          → AreTreesOfAt nodes w (take (length slice - 1) (drop 1 slice))
+      others_wide e wide =
+          subst (AreTreesOfAt nodes w) (sym (take_rest slice 1)) (after_first nodes w slice (each_wide e wide))
 
-    -- the first has
-    pub first_wide : {j : Kind} (d : ExprId) → k ≡ j → HasWideParts j → width_of (tree_of nodes (get_or slice 0 d)) ≡ w
-    first_wide d e wide =
-        let two = two_parts e wide in
-        (tree_of_among nodes w slice 0 d (each_wide e wide) (omega (arith, two))).1
-
-  -- what is formed of them
-  module _ (parents : List (Option ℕ)) where
-    formed_read : {j : Kind} → k ≡ j
-        → reformed parents w j (trees_at nodes slice) ≡ reformed parents w k (trees_at nodes there)
-    formed_read {j} e =
-        ap (λ ids. reformed parents w j (trees_at nodes ids)) same
-        ∙ sym (ap (λ i. reformed parents w i (trees_at nodes there)) e)
-
-    pub recurrence_formed : {l : LoopId} → k ≡ kind.Rec l
-        → recurrence_of w l.0 (trees_at nodes slice) ≡ reformed parents w k (trees_at nodes there)
-    recurrence_formed {l} e = of_recurrence parents w l (trees_at nodes slice) ∙ formed_read e
-
-    pub leaf_formed : {register : ValueId} {loop : Option LoopId} → k ≡ kind.Leaf register loop
-        → reformed parents w k (trees_at nodes there)
-        ≡ Done (of_atom w (atom k w (parts_of (trees_at nodes there))))
-    leaf_formed e = of_leaf parents w (trees_at nodes there) e
-
-    module _ (d : ExprId) where
-      pub trunc_formed : k ≡ kind.Trunc
-          → truncated parents w (tree_of nodes (get_or slice 0 d)) ≡ reformed parents w k (trees_at nodes there)
-      trunc_formed e = of_trunc nodes w parents d slice (parts_read e) ∙ formed_read e
-
-      pub zext_formed : k ≡ kind.Zext
-          → extended_when kind.Zext w false (tree_of nodes (get_or slice 0 d))
-          ≡ reformed parents w k (trees_at nodes there)
-      zext_formed e = of_zext nodes w parents d slice (parts_read e) ∙ formed_read e
-
-      pub sext_formed : k ≡ kind.Sext
-          → extended_when kind.Sext w false (tree_of nodes (get_or slice 0 d))
-          ≡ reformed parents w k (trees_at nodes there)
-      sext_formed e = of_sext nodes w parents d slice (parts_read e) ∙ formed_read e
-
-      pub quotient_formed : k ≡ kind.Udiv
-          → tree_quotient w (tree_of nodes (get_or slice 0 d)) (tree_of nodes (get_or slice 1 d))
-          ≡ reformed parents w k (trees_at nodes there)
-      quotient_formed e =
-          let two = (parts_read e).0 in
-          of_quotient nodes w parents d slice (omega (arith, two, count_of_parts nodes slice)) ∙ formed_read e
-
-      pub minimum_formed : {j : Kind} → k ≡ j → HasWideParts j → IsMinimum j
-          → minimum_of_all j w (tree_of nodes (get_or slice 0 d))
-          (trees_at nodes (take (length slice - 1) (drop 1 slice)))
-          ≡ reformed parents w k (trees_at nodes there)
-      minimum_formed {j} e wide minimum =
+      -- the first has
+      pub first_wide : {j : Kind} (d : ExprId) → k ≡ j → HasWideParts j → width_of (tree_of nodes (get_or slice 0 d)) ≡ w
+      first_wide d e wide =
           let two = two_parts e wide in
-          ap (λ ids. minimum_of_all j w (tree_of nodes (get_or slice 0 d)) (trees_at nodes ids)) (take_rest slice 1)
-          ∙ of_minimum nodes w parents d j slice minimum (omega (arith, two))
-          ∙ formed_read e
+          (tree_of_among nodes w slice 0 d (each_wide e wide) (omega (arith, two))).1
 
-      pub sequence_formed : k ≡ kind.Seq
-          → sequence_of_all w (tree_of nodes (get_or slice 0 d))
-          (trees_at nodes (take (length slice - 1) (drop 1 slice)))
-          ≡ reformed parents w k (trees_at nodes there)
-      sequence_formed e =
-          let two = two_parts e tt in
-          ap (λ ids. sequence_of_all w (tree_of nodes (get_or slice 0 d)) (trees_at nodes ids)) (take_rest slice 1)
-          ∙ of_sequence nodes w parents d slice (omega (arith, two))
-          ∙ formed_read e
+    -- what is formed of them
+    module _ (parents : List (Option ℕ)) where
+      formed_read : {j : Kind} → k ≡ j
+          → reformed parents w j (trees_at nodes slice) ≡ reformed parents w k (trees_at nodes there)
+      formed_read {j} e =
+          ap (λ ids. reformed parents w j (trees_at nodes ids)) same
+          ∙ sym (ap (λ i. reformed parents w i (trees_at nodes there)) e)
+
+      pub recurrence_formed : {l : LoopId} → k ≡ kind.Rec l
+          → recurrence_of w l.0 (trees_at nodes slice) ≡ reformed parents w k (trees_at nodes there)
+      recurrence_formed {l} e = of_recurrence parents w l (trees_at nodes slice) ∙ formed_read e
+
+      module _ (d : ExprId) where
+        pub trunc_formed : k ≡ kind.Trunc
+            → truncated parents w (tree_of nodes (get_or slice 0 d)) ≡ reformed parents w k (trees_at nodes there)
+        trunc_formed e = of_trunc nodes w parents d slice (parts_read e) ∙ formed_read e
+
+        pub extension_formed : {j : Kind} → k ≡ j → IsExtension j
+            → extended_when j w false (tree_of nodes (get_or slice 0 d)) ≡ reformed parents w k (trees_at nodes there)
+        extension_formed {j} e is = of_extension nodes w parents d j slice is (parts_read e) ∙ formed_read e
+
+        pub quotient_formed : k ≡ kind.Udiv
+            → tree_quotient w (tree_of nodes (get_or slice 0 d)) (tree_of nodes (get_or slice 1 d))
+            ≡ reformed parents w k (trees_at nodes there)
+        quotient_formed e =
+            let two = (parts_read e).0 in
+            of_quotient nodes w parents d slice (omega (arith, two, count_of_parts nodes slice)) ∙ formed_read e
+
+        pub minimum_formed : {j : Kind} → k ≡ j → HasWideParts j → IsMinimum j
+            → minimum_of_all j w (tree_of nodes (get_or slice 0 d))
+            (trees_at nodes (take (length slice - 1) (drop 1 slice)))
+            ≡ reformed parents w k (trees_at nodes there)
+        minimum_formed {j} e wide minimum =
+            let two = two_parts e wide in
+            ap (λ ids. minimum_of_all j w (tree_of nodes (get_or slice 0 d)) (trees_at nodes ids)) (take_rest slice 1)
+            ∙ of_minimum nodes w parents d j slice minimum (omega (arith, two))
+            ∙ formed_read e
+
+        pub sequence_formed : k ≡ kind.Seq
+            → sequence_of_all w (tree_of nodes (get_or slice 0 d))
+            (trees_at nodes (take (length slice - 1) (drop 1 slice)))
+            ≡ reformed parents w k (trees_at nodes there)
+        sequence_formed e =
+            let two = two_parts e tt in
+            ap (λ ids. sequence_of_all w (tree_of nodes (get_or slice 0 d)) (trees_at nodes ids)) (take_rest slice 1)
+            ∙ of_sequence nodes w parents d slice (omega (arith, two))
+            ∙ formed_read e

@@ -6,8 +6,8 @@ use Rattle.scev_sums.specs.Answers.{IsAt, trees_at}
 use Rattle.scev_sums.proofs.Telling.{told_same}
 use Rattle.scev_fold.proofs.Folding.{told_wide}
 use Rattle.scev_fold.proofs.Reforming.{two_parts, second_tree, each_wide, others_wide, first_wide, recurrence_formed}
-use Rattle.scev_fold.proofs.Reforming.{leaf_formed, trunc_formed, zext_formed, sext_formed, quotient_formed}
-use Rattle.scev_fold.proofs.Reforming.{minimum_formed, sequence_formed}
+use Rattle.scev_fold.proofs.Reforming.{leaf_formed, trunc_formed, extension_formed, quotient_formed, minimum_formed}
+use Rattle.scev_fold.proofs.Reforming.{sequence_formed}
 use Rattle.scev_fold.proofs.reformed.reformed.Goals as goal
 
 -- ---- what the calls require
@@ -63,15 +63,15 @@ returns-in-Trunc-clause-tree c =
 pub returns-in-Zext-clause-tree : goal.returns-in-Zext-clause-tree
 returns-in-Zext-clause-tree c =
     told_same (IsAt c.make_zext.new.arena c.args.w.bits) _ _ c.make_zext.result
-    (zext_formed c.args.arena.now c.args.w.bits c.args.kind c.requires.kind c.as_slice-ids.ensures c.args.nest.now
-    (record { 0 = 0 }) c.in-Zext.is)
+    (extension_formed c.args.arena.now c.args.w.bits c.args.kind c.requires.kind c.as_slice-ids.ensures c.args.nest.now
+    (record { 0 = 0 }) c.in-Zext.is tt)
     c.make_zext.ensures.tree
 
 pub returns-in-Sext-clause-tree : goal.returns-in-Sext-clause-tree
 returns-in-Sext-clause-tree c =
     told_same (IsAt c.make_sext.new.arena c.args.w.bits) _ _ c.make_sext.result
-    (sext_formed c.args.arena.now c.args.w.bits c.args.kind c.requires.kind c.as_slice-ids.ensures c.args.nest.now
-    (record { 0 = 0 }) c.in-Sext.is)
+    (extension_formed c.args.arena.now c.args.w.bits c.args.kind c.requires.kind c.as_slice-ids.ensures c.args.nest.now
+    (record { 0 = 0 }) c.in-Sext.is tt)
     c.make_sext.ensures.tree
 
 pub returns-in-Udiv-clause-tree : goal.returns-in-Udiv-clause-tree
@@ -137,10 +137,8 @@ returns-in-Rec-clause-tree c =
 pub returns-in_ok-tree_of_atom-in-Leaf-clause-tree :
     goal.returns-in_ok-tree_of_atom-in-Leaf-clause-tree
 returns-in_ok-tree_of_atom-in-Leaf-clause-tree c =
-    let nodes = c.args.arena.now in
-    let w = c.args.w.bits in
-    let k = c.args.kind in (
-      of_atom w (atom k w (parts_of (trees_at nodes c.args.parts))),
-      leaf_formed nodes w k c.requires.kind c.as_slice-ids.ensures c.args.nest.now c.in-Leaf.is,
+    let w = c.args.w.bits in (
+      of_atom w (atom c.args.kind w (parts_of (trees_at c.args.arena.now c.args.parts))),
+      leaf_formed c.args.nest.now w (trees_at c.args.arena.now c.args.parts) c.in-Leaf.is,
       c.in_ok-tree_of_atom-in-Leaf.ensures.tree,
     )
