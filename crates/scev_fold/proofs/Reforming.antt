@@ -37,7 +37,7 @@ HasWideParts kind.Sext = ⊥
 HasWideParts (kind.Leaf register loop) = ⊥
 HasWideParts _ = Unit {0}
 
--- there are two or more of them
+-- of such a kind there are two or more parts of that width
 several_wide : (w : ℕ) (k : Kind) (parts : Parts) → HasWideParts k → HasParts k w parts
     → (2 ≤ count_parts parts) × HaveWidth w parts
 several_wide w kind.Trunc parts wide has = absurd wide
@@ -49,7 +49,7 @@ several_wide w kind.Udiv parts wide has =
     (omega (arith, two), has.1)
 several_wide w _ parts wide has = has
 
--- an extension of a narrower tree
+-- an extension of a narrower tree of which nothing more is known
 narrower_extended : (k : Kind) (w : ℕ) (tree : Tree) → width_of tree < w
     → extended_when k w false tree ≡ extended k w tree
 unfolding extended_when
@@ -65,6 +65,7 @@ after_first nodes w (id ∷ ids) h = h.1
 -- ---- what is formed, of as many parts as the kind asks for
 
 module _ (nodes : List Node) (w : ℕ) (parents : List (Option ℕ)) (d : ExprId) where
+  -- of one part
   of_trunc : (ids : List ExprId) → HasParts kind.Trunc w (parts_of (trees_at nodes ids))
       → truncated parents w (tree_of nodes (get_or ids 0 d)) ≡ reformed parents w kind.Trunc (trees_at nodes ids)
   unfolding reformed
@@ -83,6 +84,7 @@ module _ (nodes : List Node) (w : ℕ) (parents : List (Option ℕ)) (d : ExprId
   of_extension kind.Sext (id ∷ other ∷ ids) is has = absurd has
   of_extension _ ids is has = absurd is
 
+  -- of two parts
   of_quotient : (ids : List ExprId) → length ids ≡ 2
       → tree_quotient w (tree_of nodes (get_or ids 0 d)) (tree_of nodes (get_or ids 1 d))
       ≡ reformed parents w kind.Udiv (trees_at nodes ids)
@@ -92,6 +94,7 @@ module _ (nodes : List Node) (w : ℕ) (parents : List (Option ℕ)) (d : ExprId
   of_quotient (id ∷ other ∷ []) two = refl
   of_quotient (id ∷ other ∷ third ∷ ids) two = absurd (omega arith)
 
+  -- of a first part and others
   of_minimum : (k : Kind) (ids : List ExprId) → IsMinimum k → 1 ≤ length ids
       → minimum_of_all k w (tree_of nodes (get_or ids 0 d)) (trees_at nodes (drop 1 ids))
       ≡ reformed parents w k (trees_at nodes ids)
@@ -110,13 +113,15 @@ module _ (nodes : List Node) (w : ℕ) (parents : List (Option ℕ)) (d : ExprId
   of_sequence [] some = absurd (omega arith)
   of_sequence (id ∷ ids) some = refl
 
+-- of any parts
 of_recurrence : (parents : List (Option ℕ)) (w : ℕ) (l : LoopId) (trees : List Tree)
     → recurrence_of w l.0 trees ≡ reformed parents w (kind.Rec l) trees
 unfolding reformed
 of_recurrence parents w l trees = refl
 
--- an atom that has no parts is itself
-pub leaf_formed : (parents : List (Option ℕ)) (w : ℕ) {k : Kind} {register : ValueId} {loop : Option LoopId} (trees : List Tree)
+-- an atom of a register is itself
+pub leaf_formed : (parents : List (Option ℕ)) (w : ℕ) {k : Kind} {register : ValueId} {loop : Option LoopId}
+    (trees : List Tree)
     → k ≡ kind.Leaf register loop
     → reformed parents w k trees ≡ Done (of_atom w (atom k w (parts_of trees)))
 unfolding reformed
@@ -141,6 +146,7 @@ module _ (nodes : List Node) (w : ℕ) (k : Kind) {slice there : List ExprId}
         omega (arith, many, count_of_parts nodes slice)
 
     module _ (trees : AreTrees nodes there) where
+      -- the second of a quotient is a tree
       pub second_tree : (d : ExprId) → k ≡ kind.Udiv → IsTreeAt nodes (get_or slice 1 d)
       second_tree d e =
           tree_among nodes slice 1 d (get_or slice 1 d) (subst (AreTrees nodes) (sym same) trees) (two_parts e tt) refl
@@ -151,19 +157,20 @@ module _ (nodes : List Node) (w : ℕ) (k : Kind) {slice there : List ExprId}
           wide_parts nodes w slice (subst (AreTrees nodes) (sym same) trees)
           (several_wide w j (parts_of (trees_at nodes slice)) wide (parts_read e)).1
 
-      -- so have all but the first
+      -- also of those behind the first
       pub others_wide : {j : Kind} → k ≡ j → HasWideParts j
           → AreTreesOfAt nodes w (take (length slice - 1) (drop 1 slice))
       others_wide e wide =
           subst (AreTreesOfAt nodes w) (sym (take_rest slice 1)) (after_first nodes w slice (each_wide e wide))
 
-      -- the first has
-      pub first_wide : {j : Kind} (d : ExprId) → k ≡ j → HasWideParts j → width_of (tree_of nodes (get_or slice 0 d)) ≡ w
+      -- so has the first
+      pub first_wide : {j : Kind} (d : ExprId) → k ≡ j → HasWideParts j
+          → width_of (tree_of nodes (get_or slice 0 d)) ≡ w
       first_wide d e wide =
           let two = two_parts e wide in
           (tree_of_among nodes w slice 0 d (each_wide e wide) (omega (arith, two))).1
 
-    -- what is formed of them
+    -- what is formed of them, where the kind is known, is what is formed by the kind
     module _ (parents : List (Option ℕ)) where
       formed_read : {j : Kind} → k ≡ j
           → reformed parents w j (trees_at nodes slice) ≡ reformed parents w k (trees_at nodes there)
