@@ -27,13 +27,6 @@ narrow_fitted parents w tree {v = v} e less =
     ∙ sym (ap (λ b. cond b (extended kind.Zext w tree) (truncated parents w tree))
     (ap (λ (u : ℕ). nat_lt u w) (sym e) ∙ lt-ltb v w less))
 
--- and one that isn't is truncated
-pub wide_fitted : (parents : List (Option ℕ)) (w : ℕ) (tree : Tree) {v : ℕ} → v ≡ width_of tree → w ≤ v
-    → truncated parents w tree ≡ fitted parents w tree
-wide_fitted parents w tree {v = v} e most =
-    sym (ap (λ b. cond b (extended kind.Zext w tree) (truncated parents w tree))
-    (ap (λ (u : ℕ). nat_lt u w) (sym e) ∙ le-ltb v w most))
-
 -- ---- one part
 
 module _ (parents : List (Option ℕ)) (w : ℕ) (old middle : List Node) (grows : GoesOn old middle)

@@ -1,8 +1,8 @@
-use Rattle.std.proofs.Common.{◌<◌, ◌≤◌, arith}
+use Rattle.std.proofs.Common.{◌<◌, arith}
 use Rattle.scev_arena.specs.Meaning.{tree_of}
 use Rattle.scev_sums.specs.Answers.{IsAt}
 use Rattle.scev_sums.proofs.Telling.{told_same}
-use Rattle.scev_fold.proofs.Counting.{narrow_fitted, wide_fitted}
+use Rattle.scev_fold.proofs.Counting.{narrow_fitted}
 use Rattle.scev_fold.proofs.counted.fitted.Goals as goal
 
 pub returns-then-get-clause-tree : goal.returns-then-get-clause-tree
