@@ -54,9 +54,7 @@ returns-in-None-default-clause-tree c =
     let nodes = c.args.arena.now in
     let others = c.in-Some.both.1.now in
     let e = c.in-Some.ensures.cases.0 in
-    let own = c.in-None-default.if-this-lt1-own in let two = c.in-None-default.ensures-1 in let three = c.in-None-1 in
-    let four = c.enum_told-1 in let five = c.others-1 in let six = c.result-in-None-default-1 in
-    let none : length others ≡ 1 → ⊥ = λ one. ? in (
+    let none : length others ≡ 1 → ⊥ = λ one. grind arith in (
       tree_of nodes c.in-Some.both.0.now,
       start_counted c.args.nest.now c.args.w.bits (tree_of nodes c.args.count) nodes e c.number_of.ensures
           c.in-None-default.is-0 none,
