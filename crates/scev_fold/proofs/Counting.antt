@@ -156,7 +156,8 @@ no_step parents w count nodes first (step ∷ more ∷ others) other = refl
 
 module _ (parents : List (Option ℕ)) (w : ℕ) (count : Tree) (nodes : List Node) where
   -- without parts it is 0
-  pub no_parts_counted : (ids : List ExprId) → ids ≡ [] → counted parents w count (trees_at nodes ids) ≡ Done (constant w 0)
+  pub no_parts_counted : (ids : List ExprId) → ids ≡ []
+      → counted parents w count (trees_at nodes ids) ≡ Done (constant w 0)
   unfolding counted
   no_parts_counted ids e = ap (λ l. counted parents w count (trees_at nodes l)) e
 
