@@ -70,14 +70,14 @@ parts_counted parents w (part tree parts) trees h =
 -- ---- kinds
 
 -- the kinds of casts
-abbrev pub IsCast : Kind → Type 0
+abbrev IsCast : Kind → Type 0
 IsCast kind.Trunc = Unit {0}
 IsCast kind.Zext = Unit {0}
 IsCast kind.Sext = Unit {0}
 IsCast _ = ⊥
 
 -- a cast has one part
-pub one_part : (nodes : List Node) (k : Kind) (v : ℕ) (ids : List ExprId) → IsCast k
+one_part : (nodes : List Node) (k : Kind) (v : ℕ) (ids : List ExprId) → IsCast k
     → HasParts k v (parts_of (trees_at nodes ids))
     → length ids ≡ 1
 one_part nodes kind.Trunc v [] cast has = absurd has

@@ -11,12 +11,14 @@ use Rattle.binomial_eval.proofs.LinearLemmas.{IsSplit, trailing_split, times_one
 
 -- ---- odd numbers
 
+-- the product of two odd numbers is odd
 odd_product : (a p : ℕ) → a % 2 ≡ 1 → p % 2 ≡ 1 → a * p % 2 ≡ 1
 odd_product a p h k =
     let whole : a ≡ 2 * (a / 2) + 1 = omega (arith, div-add-mod a 2, h) in
     let split : a * p ≡ 2 * (a / 2 * p) + p = ap (λ (t : ℕ). t * p) whole ∙ omega arith in
     omega (arith, split, k)
 
+-- each factor of an odd number is odd
 odd_factor : (c q : ℕ) → c * q % 2 ≡ 1 → c % 2 ≡ 1
 odd_factor c q h =
     elim (cases_lt (c % 2) 1) [
@@ -36,6 +38,7 @@ even_factor c q m odd e =
     ] in
     (c / 2, whole, omega (arith, ap (λ (t : ℕ). t * q) whole, e))
 
+-- the next power of 2 is twice as much
 pow_more : (e : ℕ) → 2 ^ suc e ≡ 2 * 2 ^ e
 pow_more e =
     let more : suc e ≡ 1 + e = omega arith in
@@ -50,13 +53,16 @@ divided (suc e) c q m odd h =
     let rest = divided e half.0 q m odd half.2 in
     (rest.0, omega (arith, half.1, rest.1, ap (λ (t : ℕ). t * rest.0) more), rest.2)
 
+-- a product with a power of 2 whose exponent is written in another way
+same_power : (j k b c : ℕ) → j ≡ k → c ≡ 2 ^ j * b → c ≡ 2 ^ k * b
+same_power j k b c same whole = whole ∙ ap (λ (i : ℕ). 2 ^ i * b) same
+
 -- the powers of 2 and the odd numbers of a quotient
 quotient : (c d q e m : ℕ) → q % 2 ≡ 1 → m % 2 ≡ 1 → 2 ^ d * (c * q) ≡ 2 ^ e * m
     → (d ≤ e) × (b : ℕ) × (c ≡ 2 ^ (e - d) * b) × (b * q ≡ m)
 quotient c zero q e m odd left h =
     let rest = divided e c q m odd (omega (arith, h)) in
-    let same : e ≡ e - 0 = omega arith in
-    (omega arith, rest.0, rest.1 ∙ ap (λ (j : ℕ). 2 ^ j * rest.0) same, rest.2)
+    (omega arith, rest.0, same_power e (e - 0) rest.0 c (omega arith) rest.1, rest.2)
 quotient c (suc d) q zero m odd left h =
     absurd (omega (arith, left, h, ap (λ (t : ℕ). t * (c * q)) (pow_more d)))
 quotient c (suc d) q (suc e) m odd left h =
@@ -67,8 +73,7 @@ quotient c (suc d) q (suc e) m odd left h =
       ap (λ (t : ℕ). t * m) (pow_more e),
     ) in
     let rest = quotient c d q e m odd left half in
-    let same : e - d ≡ suc e - suc d = omega arith in
-    (omega (arith, rest.0), rest.1, rest.2 ∙ ap (λ (j : ℕ). 2 ^ j * rest.1) same, rest.3)
+    (omega (arith, rest.0), rest.1, same_power (e - d) (suc e - suc d) rest.1 c (omega arith) rest.2, rest.3)
 
 -- ---- the next coefficient
 
@@ -82,6 +87,7 @@ cross next y now x d q u p t a both whole by times before power =
     let all : both * (a * p) ≡ t * u * (a * p) = ap (λ (z : ℕ). z * (a * p)) power in
     omega (arith, left, whole, right, all)
 
+-- a product of three numbers, grouped the other way
 group : (x y z : ℕ) → x * y * z ≡ x * (y * z)
 group x y z = omega arith
 
@@ -90,9 +96,9 @@ pub odd_next : (odd a p q inverse b m : ℕ) → odd ≡ a % m → q * inverse %
     → odd * p % m * inverse % m ≡ b % m
 odd_next odd a p q inverse b m is one whole =
     let before : odd * p * inverse ≡ a % m * (p * inverse) =
-        ap (λ (z : ℕ). z * p * inverse) is ∙ group (a % m) p inverse in
+    ap (λ (z : ℕ). z * p * inverse) is ∙ group (a % m) p inverse in
     let after : a * (p * inverse) ≡ b * (q * inverse) =
-        sym (group a p inverse) ∙ ap (λ (z : ℕ). z * inverse) (sym whole) ∙ group b q inverse in
+    sym (group a p inverse) ∙ ap (λ (z : ℕ). z * inverse) (sym whole) ∙ group b q inverse in
     mul-mod_first (odd * p) inverse m
     ∙ ap (λ (z : ℕ). z % m) before
     ∙ mul-mod_first a (p * inverse) m
@@ -100,15 +106,20 @@ odd_next odd a p q inverse b m is one whole =
     ∙ times_one b (q * inverse) m one
 
 module _ (n k t a : ℕ) (before : choose n k ≡ 2 ^ t * a) (odd : a % 2 ≡ 1) (below : k < n) (small : n < 2 ^ 64) where
+  -- the factor n - k as a power of 2 times an odd number
   times : IsSplit 64 (trailing_zeros w64 (n - k)) (n - k)
   times = trailing_split 64 (n - k) (omega arith) (λ none. omega (arith, none, below)) (omega (arith, small))
 
+  -- and the divisor k + 1
   pub by : IsSplit 64 (trailing_zeros w64 (k + 1)) (k + 1)
   by = trailing_split 64 (k + 1) (omega arith) (λ none. omega (arith, none)) (omega (arith, small, below))
 
+  -- each step adds fewer than 64 to the power
   pub few : trailing_zeros w64 (n - k) < 64
   few = times.fewer
 
+  -- the next coefficient as a power of 2 times a number, whose product with the divisor's odd number is that of the
+  -- two odd numbers before
   pub next : (trailing_zeros w64 (k + 1) ≤ t + trailing_zeros w64 (n - k))
       × (b : ℕ)
       × (choose n (k + 1) ≡ 2 ^ (t + trailing_zeros w64 (n - k) - trailing_zeros w64 (k + 1)) * b)
@@ -124,6 +135,7 @@ module _ (n k t a : ℕ) (before : choose n k ≡ 2 ^ t * a) (odd : a % 2 ≡ 1)
       (cross (choose n (k + 1)) (k + 1) (choose n k) (n - k) (2 ^ d) q (2 ^ u) p (2 ^ t) a (2 ^ (t + u)) whole
       by.split times.split before (pow-add 2 t u))
 
+  -- and that number is odd
   pub next_odd : next.1 % 2 ≡ 1
   next_odd =
       let q = (k + 1) / 2 ^ trailing_zeros w64 (k + 1) in

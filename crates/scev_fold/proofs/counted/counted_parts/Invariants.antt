@@ -1,4 +1,4 @@
-use Rattle.std.proofs.Common.{◌+◌, ◌×◌, drop}
+use Rattle.std.proofs.Common.{◌+◌, drop}
 use Rattle.scev_arena.specs.Meaning.{tree_of}
 use Rattle.scev_forms.specs.Turns as forms
 use Rattle.scev_sums.specs.Answers.{trees_at}
@@ -11,7 +11,7 @@ abbrev pub invariant-loop-i : goal.invariant-loop-i
 invariant-loop-i l =
     let first = l.fn.arena in
     let w = l.fn.w.bits in
-    IsCutting (λ sum. forms.counted_parts l.nest w l.fn.n (l.i + 1) (trees_at first (drop l.i l.others)) sum) w
+    IsCutting (forms.counted_parts l.nest w l.fn.n (l.i + 1) (trees_at first (drop l.i l.others))) w
     (forms.counted_parts l.nest w l.fn.n 1 (trees_at first l.others) (tree_of first l.fn.first))
     first l.arena l.sum
     × IsBinomial l.fn.n l.i l.binomial

@@ -1,4 +1,4 @@
-use Rattle.std.proofs.Common.{◌<◌, sym, ◌∙◌, arith}
+use Rattle.std.proofs.Common.{arith}
 use Rattle.scev_arena.specs.Meaning.{tree_of}
 use Rattle.scev_sums.specs.Answers.{IsAt}
 use Rattle.scev_sums.proofs.Telling.{told_same}

@@ -22,8 +22,11 @@ returns c =
     let is = c.requires.binomial in
     let step = lemma.next n k t is.0 is.1 is.2 c.requires.below c.ranges.n.fits in
     let few = lemma.few n k t is.0 is.1 is.2 c.requires.below c.ranges.n.fits in
-    let twos : t + trailing_zeros w64 (n - k) - trailing_zeros w64 (k + 1) ≡ t + c.from.result - c.from-2.result =
-        omega (arith, c.from.ensures, c.from-2.ensures) in (
+    let up = trailing_zeros w64 (n - k) in
+    let down = trailing_zeros w64 (k + 1) in
+    let plus = c.from.result in
+    let minus = c.from-2.result in
+    let twos : t + up - down ≡ t + plus - minus = omega (arith, c.from.ensures, c.from-2.ensures) in (
       step.1,
       step.2 ∙ ap (λ j. 2 ^ j * step.1) twos,
       lemma.next_odd n k t is.0 is.1 is.2 c.requires.below c.ranges.n.fits,
