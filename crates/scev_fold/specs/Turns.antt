@@ -18,15 +18,15 @@ abbrev pub IsSome : {A B : Type 0} → (A → B → Type 0) → Option A → B �
 IsSome StandsFor (Some a) b = StandsFor a b
 IsSome StandsFor None b = ⊥
 
--- Where something is to be formed, what is answered is that or the limit that is met; where nothing is, it is None. It may
--- also be that no memory is found.
+-- Where something is to be formed, what is answered is that or the limit that is met; where nothing is, it is None. It
+-- may also be that no memory is found.
 abbrev pub TellsIfAny : {A B : Type 0} → (A → B → Type 0) → Option (Outcome B) → Result (Option A) FoldError → Type 0
 TellsIfAny StandsFor (Some outcome) result = Tells (IsSome StandsFor) outcome result
 TellsIfAny StandsFor None (Ok found) = found ≡ None
 TellsIfAny StandsFor None (Err error) = error ≡ OutOfMemory
 
--- Whenever the count has the turn of the loop as its value, and the tree at a place has a value, the tree at another one
--- has it.
+-- Whenever the count has the turn of the loop as its value, and the tree at a place has a value, the tree at another
+-- one has it.
 abbrev pub HasValueAtTurn : List Node → List Node → ℕ → ExprId → ExprId → ExprId → Type 0
 HasValueAtTurn old new l count id out = (held : ℕ → Option ℕ) (turns : ℕ → ℕ) (n : ℕ)
     → tree_value held turns (tree_of old count) ≡ Some (turns l)

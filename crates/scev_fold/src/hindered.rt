@@ -16,8 +16,8 @@ use scev_base::{ExprId, LoopId, LoopNest};
 use scev_tree::Kind;
 use scev_walk::{atom_at, number_of, stands_in, tree_at};
 
-/// Whether something in the tree keeps it from having a value at the count: a register that is defined in the loop, or a
-/// recurrence of the loop that isn't of two parts with a number as the second, where the count is no number.
+/// Whether something in the tree keeps it from having a value at the count: a register that is defined in the loop, or
+/// a recurrence of the loop that isn't of two parts with a number as the second, where the count is no number.
 #[cycle(search)]
 pub(crate) fn is_hindered(
     arena: &Arena,
@@ -70,7 +70,8 @@ fn has_hindered_factor(
     requires atoms { (w : ℕ) × AreAtoms arena.now w ids.now }
     requires below { AreBelow below ids.now }
     requires count { IsTreeAt arena.now count }
-    ensures { result ≡ factors_hindered nest.now l.0 (tree_of arena.now count) (factors_at (meanings arena.now) ids.now) }
+    ensures { result ≡ factors_hindered nest.now l.0 (tree_of arena.now count)
+        (factors_at (meanings arena.now) ids.now) }
 {
     for id in ids {
         if is_hindered_atom(arena, nest, l, count, *id) {
@@ -137,8 +138,8 @@ fn hinders(
     }
 }
 
-/// Whether a recurrence with these parts has a value at the count: that is a number, or there are two parts, and the second
-/// is a number.
+/// Whether a recurrence with these parts has a value at the count: that is a number, or there are two parts, and the
+/// second is a number.
 fn is_countable(arena: &Arena, count: ExprId, parts: &[ExprId]) -> bool
     requires trees { AreTrees arena.now parts.now }
     requires count { IsTreeAt arena.now count }

@@ -51,8 +51,8 @@ has_hindered_term-has_hindered_factor-requires t c =
     let ids = c.as_slice.ensures in
     let atoms = term_among nodes w ts i c.term-item.result c.term-item.result c.requires.over.1 c.loop-term-test.true
     c.term-item.is in
-    let below = over_below_among c.args.below ts i c.term-item.result c.term-item.result c.requires.below c.loop-term-test.true
-    c.term-item.is in (
+    let below = over_below_among c.args.below ts i c.term-item.result c.term-item.result c.requires.below
+    c.loop-term-test.true c.term-item.is in (
       omega (arith, c.decreases),
       (
         (w, subst (AreAtoms nodes w) (sym ids) atoms),

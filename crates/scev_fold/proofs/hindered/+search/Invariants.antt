@@ -22,13 +22,16 @@ decreases-has_hindered_factor l = 4 * l.below + 1
 
 -- What is left decides.
 abbrev pub invariant-has_hindered_part-loop-id : goal.invariant-has_hindered_part-loop-id
-invariant-has_hindered_part-loop-id l = parts_hindered l.nest l.l.0 (tree_of l.arena l.count) (parts_of (map (tree_of l.arena) (drop l.id-index l.parts)))
+invariant-has_hindered_part-loop-id l =
+    parts_hindered l.nest l.l.0 (tree_of l.arena l.count) (parts_of (map (tree_of l.arena) (drop l.id-index l.parts)))
     ≡ parts_hindered l.nest l.l.0 (tree_of l.arena l.count) (parts_of (map (tree_of l.arena) l.parts))
 
 abbrev pub invariant-has_hindered_term-loop-term : goal.invariant-has_hindered_term-loop-term
-invariant-has_hindered_term-loop-term l = terms_hindered l.nest l.l.0 (tree_of l.arena l.count) (terms_at (meanings l.arena) (drop l.term-index l.terms))
+invariant-has_hindered_term-loop-term l =
+    terms_hindered l.nest l.l.0 (tree_of l.arena l.count) (terms_at (meanings l.arena) (drop l.term-index l.terms))
     ≡ terms_hindered l.nest l.l.0 (tree_of l.arena l.count) (terms_at (meanings l.arena) l.terms)
 
 abbrev pub invariant-has_hindered_factor-loop-id : goal.invariant-has_hindered_factor-loop-id
-invariant-has_hindered_factor-loop-id l = factors_hindered l.nest l.l.0 (tree_of l.arena l.count) (factors_at (meanings l.arena) (drop l.id-index l.ids))
+invariant-has_hindered_factor-loop-id l =
+    factors_hindered l.nest l.l.0 (tree_of l.arena l.count) (factors_at (meanings l.arena) (drop l.id-index l.ids))
     ≡ factors_hindered l.nest l.l.0 (tree_of l.arena l.count) (factors_at (meanings l.arena) l.ids)
