@@ -1,0 +1,4 @@
+pub mod Marks
+pub mod Bodies
+pub mod Nesting
+pub mod Passing

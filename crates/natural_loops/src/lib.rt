@@ -1,0 +1,19 @@
+//! The natural loops of a function: their blocks, latches, entering blocks and exits, which loop stands in which, and
+//! which blocks each turn passes.
+#![tactic(auto)]
+
+mod backward;
+mod blocks;
+mod exits;
+mod latches;
+mod listed;
+mod nest;
+mod passed;
+mod region;
+mod sides;
+mod smallest;
+mod table;
+
+pub use region::Region;
+pub use sides::Sides;
+pub use table::{LoopTable, loops};
