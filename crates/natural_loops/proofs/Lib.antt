@@ -2,3 +2,4 @@ pub mod Marks
 pub mod Bodies
 pub mod Nesting
 pub mod Passing
+pub mod Listing
