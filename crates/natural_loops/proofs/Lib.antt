@@ -3,3 +3,5 @@ pub mod Bodies
 pub mod Nesting
 pub mod Passing
 pub mod Listing
+pub mod LatchMarks
+pub mod Backwards
