@@ -5,3 +5,4 @@ pub mod Passing
 pub mod Listing
 pub mod LatchMarks
 pub mod Backwards
+pub mod Finding
