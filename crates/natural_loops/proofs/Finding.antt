@@ -26,7 +26,7 @@ dominates_source f h a b dominates apart edge before trail =
       | inr there ↦ there
     ]
 
-module _ (f : Function) (h : ℕ) (graph : List (List ℕ)) (is : IsBackward f graph) where
+module _ (f : Function) (h : ℕ) (graph : List (List ℕ)) where
   -- a walk from a block to the header, along marked blocks
   abbrev pub Led : List Bool → ℕ → Type 0
   Led marks b = (between : List ℕ) × All (IsMarked marks) between × Walk f b between h
@@ -72,8 +72,8 @@ module _ (f : Function) (h : ℕ) (graph : List (List ℕ)) (is : IsBackward f g
     all = All-push (λ (one : BlockId). IsMarked marks one.0) latches latch are.all marked;
   }
 
-  module _ (latches : List BlockId) (old new : List Bool) (latch : BlockId) (found : List ℕ)
-      (back : IsBackEdge f latch.0 h) (search : AreAllFound graph latch.0 old new found)
+  module _ (is : IsBackward f graph) (latches : List BlockId) (old new : List Bool) (latch : BlockId)
+      (found : List ℕ) (back : IsBackEdge f latch.0 h) (search : AreAllFound graph latch.0 old new found)
       (are : AreFoundBehind latches old) where
     fresh : (k : ℕ) → Contains found k
         → Path (ArcToUnmarked graph old) latch.0 k × (IsMarked old k → ⊥) × IsMarked new k
