@@ -6,3 +6,4 @@ pub mod Listing
 pub mod LatchMarks
 pub mod Backwards
 pub mod Finding
+pub mod Regions
