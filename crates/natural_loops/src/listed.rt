@@ -23,6 +23,7 @@ pub(crate) fn listed(
     ensures { IfOk result (λ found. AreInTextOrder c.now.function (IsMarked marks.now) found) }
 {
     let f = c.function();
+    let _ = c.flow();
     let mut found = Items::new(alloc);
     for block in f.blocks.as_slice() {
         if marks.get(block.id.0 as usize) {

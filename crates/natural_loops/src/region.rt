@@ -2,7 +2,8 @@
 
 ghost use Rattle.std.specs.Prelude.{◌≡◌, ◌<◌, length, IfOk, IfSome, IfNone, slice_index_or, ℕ, false};
 ghost use Rattle.scev_base.specs.declared.ids.BlockId.{BlockId as Block};
-ghost use Rattle.ir_model.specs.Walks.{Reachable};
+ghost use Rattle.ir_model.specs.Shapes.{entry};
+ghost use Rattle.ir_model.specs.Walks.{Edge};
 ghost use Rattle.natural_loops.specs.Backward.{IsBackEdge, IsBackward};
 ghost use Rattle.natural_loops.specs.Table.{IsRegionOf, AreAllLoops};
 
@@ -69,6 +70,7 @@ fn region_at(
 ) -> Result<Option<Region>, AllocError>
     requires header { h.0 < length c.now.function.labels }
     requires backward { IsBackward c.now.function backward.now }
+    requires first { (a : ℕ) → Edge c.now.function a (entry c.now.function.blocks) → ⊥ }
     ensures loop_ { IfOk result (λ found. IfSome found (λ region. (region.header ≡ h) × IsRegionOf c.now.function region)) }
     ensures none { IfOk result (λ found. IfNone found ((b : ℕ) → IsBackEdge c.now.function b h.0 → ⊥)) }
 {
