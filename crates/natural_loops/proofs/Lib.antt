@@ -7,3 +7,4 @@ pub mod LatchMarks
 pub mod Backwards
 pub mod Finding
 pub mod Regions
+pub mod Marking
