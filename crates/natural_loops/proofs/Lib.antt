@@ -8,3 +8,5 @@ pub mod Backwards
 pub mod Finding
 pub mod Regions
 pub mod Marking
+pub mod SmallestLoop
+pub mod ExitMarks

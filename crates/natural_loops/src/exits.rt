@@ -1,6 +1,6 @@
 //! The exits of a loop.
 
-ghost use Rattle.std.specs.Prelude.{◌≡◌, ◌<◌, ◌↔◌, ℕ, ◌++◌, ◌∷◌, All, AllPairs, Contains, IfOk, OnOk, IsTrue, length, slice_get, take, ◌≤◌, ◌⊎◌};
+ghost use Rattle.std.specs.Prelude.{◌≡◌, ◌≢◌, ◌<◌, ◌↔◌, ℕ, ◌++◌, ◌∷◌, All, AllPairs, Contains, IfOk, OnOk, IsTrue, length, slice_get, take, ◌≤◌, ◌⊎◌};
 ghost use Rattle.scev_base.specs.declared.ids.BlockId.{BlockId as Block};
 ghost use Rattle.flow_graph.specs.Graph.{IsMarked};
 ghost use Rattle.ssa_check.specs.Checked.{Dominates};
@@ -76,8 +76,10 @@ fn all_marked(blocks: &[BlockId], marks: &BitRow) -> bool
 /// Blocks of which one dominates the other, of each two, in that order. They are different and have labels.
 fn in_order(alloc: Global, c: &Checked, blocks: &[BlockId]) -> Result<Items<BlockId>, AllocError>
     requires labels { All (λ b. b.0 < length c.now.function.labels) blocks.now }
+    requires apart { AllPairs (λ a b. a.0 ≢ b.0) blocks.now }
     requires chain { AllPairs (λ a b. Dominates c.now.function a.0 b.0 ⊎ Dominates c.now.function b.0 a.0) blocks.now }
     ensures same { IfOk result (λ found. (b : Block) → Contains found b ↔ Contains blocks.now b) }
+    ensures apart { IfOk result (λ found. AllPairs (λ a b. a.0 ≢ b.0) found) }
     ensures ordered { IfOk result (λ found. AllPairs (λ a b. Dominates c.now.function a.0 b.0) found) }
 {
     let mut found = Vec::new(alloc);
