@@ -1,4 +1,6 @@
 pub mod Marks
+pub mod Walking
+pub mod Trails
 pub mod Bodies
 pub mod Nesting
 pub mod Passing
