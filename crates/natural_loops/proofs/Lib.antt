@@ -2,5 +2,6 @@ pub mod Marks
 pub mod Walking
 pub mod Trails
 pub mod Bodies
+pub mod Trailing
 pub mod Nesting
 pub mod Passing
