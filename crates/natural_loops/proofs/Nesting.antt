@@ -110,9 +110,8 @@ module _ (f : Function) where
         elim (cases_eq l.header k.header) [
           | inl same ↦ same
           | inr apart ↦
-              absurd (
-                dominates_one_way f l.header k.header apart (first.region.reachable k.header held)
-                (header_dominates f never l first.region k.header held)
-                (header_dominates f never k second.region l.header also)
-              )
+              let reachable = first.region.reachable k.header held in
+              let forth = header_dominates f never l first.region k.header held in
+              let back = header_dominates f never k second.region l.header also in
+              absurd (dominates_one_way f l.header k.header apart reachable forth back)
         ]

@@ -66,8 +66,7 @@ module _ (f : Function) (never : (a : ℕ) → Edge f a (entry f.blocks) → ⊥
         )
         | inr apart ↦
             let start = way_inside before within apart in
-            let between = start.0.between in
-            (
+            let between = start.0.between in (
               record {
                 between = between ++ from ∷ [];
                 inside = All-push (Contains l.blocks) between from start.0.inside within;
@@ -121,10 +120,9 @@ module _ (f : Function) (never : (a : ℕ) → Edge f a (entry f.blocks) → ⊥
       elim (cases_eq x l.header) [
         | inl e ↦ e
         | inr apart ↦
-            absurd (
-              dominates_one_way f x l.header apart (region.reachable l.header region.header) dominates
-              (header_dominates f never l region x held)
-            )
+            let reachable = region.reachable l.header region.header in
+            let back = header_dominates f never l region x held in
+            absurd (dominates_one_way f x l.header apart reachable dominates back)
       ]
 
   -- what each turn passes dominates each latch
@@ -145,17 +143,19 @@ module _ (f : Function) (never : (a : ℕ) → Edge f a (entry f.blocks) → ⊥
               | inr none ↦ absurd (contains_none x none)
             ]
         | inr apart ↦
-            (walks_pass x b held latch.1 apart).0 (λ way.
-                let turn : WalkInside f l l.header =
-                record {
-                  between = way.between ++ b ∷ [];
-                  inside = All-push (Contains l.blocks) way.between b way.inside latch.1;
-                  walk = walk_join f l.header b l.header way.between [] way.walk latch.2;
-                } in
-                elim (Contains-push_cases (l.header ∷ way.between) b x (passes turn)) [
-                  | inl there ↦ inl there
-                  | inr e ↦ inr (sym e)
-                ])
+            let passed : (way : WalkInside f l b) → Contains (l.header ∷ way.between) x ⊎ (x ≡ b) =
+            λ way.
+            let turn : WalkInside f l l.header =
+            record {
+              between = way.between ++ b ∷ [];
+              inside = All-push (Contains l.blocks) way.between b way.inside latch.1;
+              walk = walk_join f l.header b l.header way.between [] way.walk latch.2;
+            } in
+            elim (Contains-push_cases (l.header ∷ way.between) b x (passes turn)) [
+              | inl there ↦ inl there
+              | inr e ↦ inr (sym e)
+            ] in
+            (walks_pass x b held latch.1 apart).0 passed
       ]
 
   -- what dominates each latch is passed on each turn

@@ -53,8 +53,7 @@ module _ (f : Function) where
         ]),
   )
   trail_along a b (c ∷ between) before trail walk =
-      let rest = trail_along c b between (a ∷ before) (enters trail walk.0) walk.1 in
-      (
+      let rest = trail_along c b between (a ∷ before) (enters trail walk.0) walk.1 in (
         rest.0,
         rest.1,
         (λ d there.
