@@ -6,6 +6,7 @@ mod backward;
 mod blocks;
 mod exits;
 mod latches;
+mod laws;
 mod listed;
 mod nest;
 mod passed;
@@ -14,6 +15,7 @@ mod sides;
 mod smallest;
 mod table;
 
+pub use laws::loops_are_nested_or_apart;
 pub use region::Region;
 pub use sides::Sides;
 pub use table::{LoopTable, loops};
