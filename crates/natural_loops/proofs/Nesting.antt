@@ -70,8 +70,8 @@ module _ (f : Function) where
       }
 
   -- a loop that has the header of another one has its blocks
-  pub header_inside : (inner outer : Loop) → IsLoop f inner → IsLoop f outer → Contains outer.blocks inner.header → (b : ℕ)
-      → Contains inner.blocks b → Contains outer.blocks b
+  pub header_inside : (inner outer : Loop) → IsLoop f inner → IsLoop f outer → Contains outer.blocks inner.header
+      → (b : ℕ) → Contains inner.blocks b → Contains outer.blocks b
   header_inside inner outer first second held b there =
       second.largest (together inner outer) (together_region inner outer first.region second.region held) refl b
       (Contains-append_left inner.blocks outer.blocks b there)
