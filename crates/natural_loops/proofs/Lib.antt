@@ -1,5 +1,8 @@
 pub mod Marks
+pub mod Walking
+pub mod Trails
 pub mod Bodies
+pub mod Trailing
 pub mod Nesting
 pub mod Passing
 pub mod Listing
