@@ -13,3 +13,6 @@ pub mod Regions
 pub mod Marking
 pub mod SmallestLoop
 pub mod ExitMarks
+pub mod Inserted
+pub mod Ordering
+pub mod ExitOrder

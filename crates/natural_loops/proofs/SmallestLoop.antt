@@ -1,16 +1,33 @@
 -- The smallest of some loops of which something holds.
 use Rattle.std.proofs.Common.{◌≡◌, ◌⊎◌, ℕ, Bool, true, false, List, [], ◌∷◌, ◌++◌, get_or, Option, Some, None, All, Contains}
-use Rattle.std.proofs.Common.{slice_get, IsTrue, refl, sym, ◌∙◌, subst, inl, inr}
-use Rattle.std.proofs.lemmas.Bool.{false≢true, both_ways}
+use Rattle.std.proofs.Common.{◌==◌, eqb-true, ap, slice_get, IsTrue, refl, sym, ◌∙◌, subst, inl, inr}
+use Rattle.std.proofs.lemmas.Bool.{false≢true, both_ways, eq-eqb}
+use Rattle.std.specs.Option.{option_eq}
+use Rattle.std.proofs.lemmas.Option.{slice_get_within, get_or_from_slice_get}
 use Rattle.std.proofs.lemmas.List.Elements.{All-head, All-tail, All-contains, Contains-push_cases}
+use Rattle.scev_base.specs.declared.ids.BlockId.{BlockId}
 use Rattle.ir_model.specs.declared.function.Function.{Function}
 use Rattle.ir_model.specs.Walks.{Walk}
 use Rattle.flow_graph.specs.Graph.{IsMarked}
+use Rattle.flow_graph.specs.EdgeLists.{block_id}
 use Rattle.loop_regions.specs.Loops.{Loop, IsRegion, IsLoop}
-use Rattle.ssa_check.proofs.Elements.{cases_contains, contains_at}
 use Rattle.natural_loops.specs.Table.{RegionParts, IsRegionOf, loop_of, HasBlocksOf, IsSmallest}
 use Rattle.natural_loops.proofs.Marks.{marked_contains}
+use Rattle.natural_loops.proofs.Trails.{cases_contains}
 use Rattle.natural_loops.proofs.Nesting.{header_inside}
+
+-- an element at a place
+pub contains_at : {X : Type 0} (xs : List X) (k : ℕ) (x : X) → slice_get xs k ≡ Some x → Contains xs x
+contains_at xs k x at = (k, slice_get_within xs k x at, get_or_from_slice_get xs k x x at)
+
+-- what a test says of a header that may be none
+pub same_header : (x : Option BlockId) (h : BlockId) → option_eq (λ a b. a.0 == b.0) x (Some h) ≡ true → x ≡ Some h
+same_header None h is = absurd (false≢true is)
+same_header (Some y) h is = ap (λ (k : ℕ). Some (block_id k)) (eqb-true y.0 h.0 is)
+
+pub header_same : (x : Option BlockId) (h : BlockId) → x ≡ Some h → option_eq (λ a b. a.0 == b.0) x (Some h) ≡ true
+header_same x h is =
+    subst (λ (y : Option BlockId). option_eq (λ a b. a.0 == b.0) y (Some h) ≡ true) (sym is) (eq-eqb h.0 h.0 refl)
 
 -- ---- loops with a block in common
 
@@ -90,7 +107,8 @@ module _ (f : Function) (regions : List RegionParts) (each : All (IsRegionOf f) 
           | inr is ↦ absurd (none (subst P (sym is) also))
         ]),
   )
-  IsSmallestAmong_skip none None nothing other there also =
+  IsSmallestAmong_skip none None nothing =
+      λ other there also.
       elim (Contains-push_cases seen region other there) [
         | inl before ↦ nothing other before also
         | inr is ↦ none (subst P (sym is) also)
@@ -109,7 +127,7 @@ module _ (f : Function) (regions : List RegionParts) (each : All (IsRegionOf f) 
             → inside ≡ get_or least.blocks region.header.0 false)
         → inside ≡ true → IsSmallestAmong regions seen P found
         → IsSmallestAmong regions (seen ++ region ∷ []) P (Some n)
-    IsSmallestAmong_more inside None says yes nothing = (
+    IsSmallestAmong_more inside None says is_in nothing = (
       region,
       at,
       also,
@@ -119,10 +137,10 @@ module _ (f : Function) (regions : List RegionParts) (each : All (IsRegionOf f) 
             | inr is ↦ itself other is
           ]),
     )
-    IsSmallestAmong_more inside (Some k) says yes least =
+    IsSmallestAmong_more inside (Some k) says is_in least =
         let old = All-contains (IsRegionOf f) regions least.0 each (contains_at regions k least.0 least.1) in
         let within : HasBlocksOf least.0 region = header_marked f region least.0 own old
-        (sym (says k least.0 refl least.1) ∙ yes) in (
+        (sym (says k least.0 refl least.1) ∙ is_in) in (
           region,
           at,
           also,
@@ -139,12 +157,12 @@ module _ (f : Function) (regions : List RegionParts) (each : All (IsRegionOf f) 
             → inside ≡ get_or least.blocks region.header.0 false)
         → inside ≡ false → IsSmallestAmong regions seen P found
         → IsSmallestAmong regions (seen ++ region ∷ []) P found
-    IsSmallestAmong_kept inside None empty says no nothing = absurd (both_ways inside no (empty refl))
-    IsSmallestAmong_kept inside (Some k) empty says no least =
+    IsSmallestAmong_kept inside None empty says is_out nothing = absurd (both_ways inside is_out (empty refl))
+    IsSmallestAmong_kept inside (Some k) empty says is_out least =
         let old = All-contains (IsRegionOf f) regions least.0 each (contains_at regions k least.0 least.1) in
         let around : HasBlocksOf region least.0 =
         elim (marks_meet f least.0 region old own b (holds least.0 least.2) (holds region also)) [
-          | inl there ↦ absurd (both_ways inside no (says k least.0 refl least.1 ∙ there))
+          | inl there ↦ absurd (both_ways inside is_out (says k least.0 refl least.1 ∙ there))
           | inr there ↦ header_marked f least.0 region old own there
         ] in (
           least.0,
@@ -170,5 +188,5 @@ IsSmallest_same regions P Q (Some k) there back least = (
   there least.0 (contains_at regions k least.0 least.1) least.2,
   (λ other among holds. least.3 other among (back other among holds)),
 )
-IsSmallest_same regions P Q None there back nothing region among holds =
-    nothing region among (back region among holds)
+IsSmallest_same regions P Q None there back nothing =
+    λ region among holds. nothing region among (back region among holds)

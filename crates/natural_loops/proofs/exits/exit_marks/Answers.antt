@@ -1,4 +1,4 @@
-use Rattle.std.proofs.Common.{◌≡◌, ℕ, ◌+◌, ◌<◌, Bool, false, List, length, replicate, sym, ap, ◌∙◌, subst, arith}
+use Rattle.std.proofs.Common.{◌≡◌, ℕ, ◌+◌, ◌<◌, Bool, false, List, length, replicate, refl, sym, ap, ◌∙◌, subst, arith}
 use Rattle.std.proofs.lemmas.Bool.{both_ways}
 use Rattle.std.proofs.lemmas.List.{length-replicate}
 use Rattle.ir_model.specs.declared.function.Function.{Function}
@@ -15,6 +15,9 @@ pub loop-b-preserved : goal.loop-b-preserved
 loop-b-preserved c =
     let f : Function = c.args.c.now.function in
     let region : RegionParts = c.args.region.now in
+    let size : c.len-b-end.result ≡ length f.labels = c.len-b-end.ensures
+    ∙ ap (λ (row : List Bool). length row) c.in_ok-marks.ensures ∙ length-replicate c.len.result false ∙ c.len.ensures
+    ∙ ap (λ (g : Function). length g.labels) c.function.ensures.value in
     let n = c.loop-b.b in
     let count : ℕ = length f.labels in
     let P : ℕ → Type 0 = IsExit f (loop_of region) in
@@ -27,7 +30,7 @@ loop-b-preserved c =
           let are = w.succs.ensures f w.flow.ensures in
           let exit = exit_from f region n w.succs.result.now are (sym c.holds.ensures ∙ w.if-holds.true)
           (w.leaves.ensures.0 w.if-leaves.true) in
-          let within : n < count = omega (arith, ?) in
+          let within : n < count = omega (arith, c.loop-b-test.true, size) in
           rw (w.marks-is, w.set.ensures)
           (AreMarks_more P count Seen Later marks n (below_cases n) inv within exit)
       | else-holds w ↦
@@ -51,9 +54,12 @@ returns c =
     let region : RegionParts = c.args.region.now in
     let ids : HasIds f = subst HasIds c.function.ensures.value c.function.ensures.well_made.ids in
     let P : ℕ → Type 0 = IsExit f (loop_of region) in
+    let size : c.len-b-end.result ≡ length f.labels = c.len-b-end.ensures
+    ∙ ap (λ (row : List Bool). length row) c.in_ok-marks.ensures ∙ length-replicate c.len.result false ∙ c.len.ensures
+    ∙ ap (λ (g : Function). length g.labels) c.function.ensures.value in
     let n = c.loop-b.b in
     let Seen : ℕ → Type 0 = λ k. k < n in
-    let all : n ≡ length f.labels = ? in
+    let all : n ≡ length f.labels = omega (arith, size, c.loop-b-test.false, c.loop-b.auto.b-end) in
     AreMarks_all P (length f.labels) Seen c.loop-b.marks
     (λ b exit. let within : b < length f.labels = edge_labelled f ids b exit.1 exit.2 in omega (arith, within, all))
     c.loop-b.invariant

@@ -23,8 +23,9 @@ set-requires c =
     let i = c.loop-from.from-index in
     let d : BlockId = record { 0 = 0 } in
     let ids : HasIds f = subst HasIds c.function.ensures.value c.function.ensures.well_made.ids in
-    let edge = edge_of_pred f c.flow-flow.ensures.once h froms i d
-    (c.preds-from-items.ensures f c.flow-flow.ensures) c.loop-from-test.true in
+    let are : froms ≡ preds_of f h = subst (λ (r : RegionParts). froms ≡ preds_of f r.header.0) c.region.view_is
+    (c.preds-from-items.ensures f c.flow-flow.ensures) in
+    let edge = edge_of_pred f c.flow-flow.ensures.once h froms i d are c.loop-from-test.true in
     let within = edge_labelled f ids (get_or froms i d).0 h edge in
     omega (arith, within, c.loop-from.invariant.size)
 
@@ -48,8 +49,9 @@ loop-from-preserved c =
     elim c.if-reachable.branch [
       | then-reachable+then-not-holds w ↦
           let ids : HasIds f = subst HasIds c.function.ensures.value c.function.ensures.well_made.ids in
-          let edge = edge_of_pred f is_flow.once h froms i d (c.preds-from-items.ensures f is_flow)
-          c.loop-from-test.true in
+          let are : froms ≡ preds_of f h = subst (λ (r : RegionParts). froms ≡ preds_of f r.header.0)
+          c.region.view_is (c.preds-from-items.ensures f is_flow) in
+          let edge = edge_of_pred f is_flow.once h froms i d are c.loop-from-test.true in
           let outside = λ (there : Contains (loop_of region).blocks from.0).
           both_ways w.holds.result w.if-not-holds.true
           (w.holds.ensures ∙ (marked_contains region.blocks from.0).0 there) in
@@ -79,8 +81,9 @@ returns c =
     let i = c.loop-from.from-index in
     let P : ℕ → Type 0 = IsEntering f (loop_of region) in
     let Seen : ℕ → Type 0 = λ k. Contains (take i froms) (block_id k) in
-    let all : take i froms ≡ preds_of f h = take_all i froms c.loop-from-test.false
-    ∙ c.preds-from-items.ensures f c.flow-flow.ensures in
+    let are : froms ≡ preds_of f h = subst (λ (r : RegionParts). froms ≡ preds_of f r.header.0) c.region.view_is
+    (c.preds-from-items.ensures f c.flow-flow.ensures) in
+    let all : take i froms ≡ preds_of f h = take_all i froms c.loop-from-test.false ∙ are in
     AreMarks_all P (length f.labels) Seen c.loop-from.marks
     (λ b entering.
         subst (λ (xs : List BlockId). Contains xs (block_id b)) (sym all)
