@@ -1,4 +1,7 @@
 pub mod Marks
+pub mod Walking
+pub mod Trails
 pub mod Bodies
+pub mod Trailing
 pub mod Nesting
 pub mod Passing
