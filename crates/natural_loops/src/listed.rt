@@ -14,7 +14,7 @@ use sqlite_items::Items;
 use ssa_check::Checked;
 use std::alloc::{AllocError, Global};
 
-/// The blocks of a function in text order: each has a label, no two have one number, and no edge leads to the first one.
+/// The blocks of a function in text order: each has a label, no two have one number, and nothing leads to the first.
 pub(crate) fn text_blocks<'c>(c: &'c Checked) -> &'c [Block]
     ensures value { result.now ≡ c.now.function.blocks }
     ensures labels { All (λ block. block.id.0 < length c.now.function.labels) result.now }

@@ -16,7 +16,8 @@ loop-block-preserved c =
     let items = c.text_blocks-block-items.result.now in
     elim c.if-get.branch [
       | then-get+in_ok-push w ↦
-          w.found-is ∙ w.in_ok-push.ensures.ok ∙ ap (λ (ids : List BlockId). ids ++ block.id ∷ []) c.loop-block.invariant
+          w.found-is ∙ w.in_ok-push.ensures.ok
+          ∙ ap (λ (ids : List BlockId). ids ++ block.id ∷ []) c.loop-block.invariant
           ∙ sym (marked_more_one marks items i block c.loop-block-test.true c.block-item.is
           (sym c.get.ensures ∙ w.if-get.true))
       | else-get w ↦
