@@ -4,3 +4,8 @@ pub mod Bodies
 pub mod Trailing
 pub mod Nesting
 pub mod Passing
+pub mod Listing
+pub mod LatchMarks
+pub mod Backwards
+pub mod Finding
+pub mod Regions
