@@ -29,4 +29,4 @@ pub returns-clause-first : goal.returns-clause-first
 returns-clause-first c =
     let g : Function = c.function.result.now in
     subst (λ (f : Function). (a : ℕ) → Edge f a (entry f.blocks) → ⊥) c.function.ensures.value
-    (entry_is_no_target c.args.c.now.signatures g c.function.ensures.well_made c.function.ensures.accepted)
+    (entry_is_no_target c.args.c.now.signatures g c.function.ensures.accepted)
