@@ -70,7 +70,8 @@ fn region_at(
     requires header { h.0 < length c.now.function.labels }
     requires backward { IsBackward c.now.function backward.now }
     requires first { (a : ℕ) → Edge c.now.function a (entry c.now.function.blocks) → ⊥ }
-    ensures loop_ { IfOk result (λ found. IfSome found (λ region. (region.header ≡ h) × IsRegionOf c.now.function region)) }
+    ensures loop_ { IfOk result (λ found. IfSome found (λ region.
+        (region.header ≡ h) × IsRegionOf c.now.function region)) }
     ensures none { IfOk result (λ found. IfNone found ((b : ℕ) → IsBackEdge c.now.function b h.0 → ⊥)) }
 {
     let latches = latches(alloc, c, h)?;
