@@ -6,6 +6,7 @@
 # a second. Needs clang-22 and lli-22 (Debian's clang-22 and llvm-22) and the built program (./scev builds it).
 here=$(dirname "$(readlink -f "$0")") || exit 2
 . "$here/seconds.sh"
+build
 interpreter=${LLI:-lli-22}
 
 evaluated() {

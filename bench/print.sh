@@ -6,6 +6,7 @@
 # /usr/bin/time and the built program (./scev builds it).
 here=$(dirname "$(readlink -f "$0")") || exit 2
 . "$here/seconds.sh"
+build
 
 line() {
     ours=$(seconds "$work/in.ll" "$program" print)

@@ -6,6 +6,7 @@
 # built program (./scev builds it).
 here=$(dirname "$(readlink -f "$0")") || exit 2
 . "$here/seconds.sh"
+build
 
 # prints the line of the table for so many loops, with so many phis each
 measure() {

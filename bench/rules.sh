@@ -8,6 +8,7 @@
 # (./scev builds it).
 here=$(dirname "$(readlink -f "$0")") || exit 2
 . "$here/seconds.sh"
+build
 
 # a run that refuses its input
 refused() {

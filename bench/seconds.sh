@@ -1,9 +1,13 @@
-# Sourced by the benchmarks: builds the program, makes a folder for files, and times commands.
+# Sourced by the benchmarks: makes a folder for files, builds the program where one asks for it, and times commands.
 program=$here/../crates/scev/out/scev
 peer=${OPT:-opt-22}
-"$here/../scev" print </dev/null >/dev/null 2>&1
 work=$(mktemp -d) || exit 2
 trap 'rm -rf "$work"' EXIT
+
+# the program, built where it isn't there yet
+build() {
+    "$here/../scev" print </dev/null >/dev/null 2>&1
+}
 
 # the least seconds of three runs of a command on a file
 seconds() {

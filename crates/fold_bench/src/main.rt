@@ -1,5 +1,6 @@
 //! Forms expressions again and again, for the benchmark of operations on expressions. The word is what is formed:
-//! `sums`, `products` or `small`, and `none` forms nothing. It prints `formed`, or `refused` where an expression is refused.
+//! `sums`, `products` or `small`, and `none` forms nothing. It prints `formed`, or `refused` where an expression is
+//! refused.
 #![tactic(auto)]
 
 mod formed;

@@ -32,29 +32,12 @@ use Rattle.natural_loops.specs.Sides.{IsLatch}
 use Rattle.natural_loops.specs.Backward.{IsBackEdge, IsBody}
 use Rattle.natural_loops.specs.Table.{marked_from}
 use Rattle.natural_loops.proofs.Marks.{marked_contains}
-use Rattle.natural_loops.proofs.Trails.{contains_none, contains_later, contains_cases, cases_contains}
-use Rattle.natural_loops.proofs.Trails.{newest, reaches, trail_to}
+use Rattle.ssa_check.proofs.Elements.{contains_none, contains_later, contains_cases, cases_contains}
+use Rattle.ssa_check.proofs.Trails.{newest, reaches, trail_to}
+use Rattle.ssa_check.proofs.Limited.{none_first, holds_of_unless}
 use Rattle.natural_loops.proofs.Walking.{Inside, inside_edge, inside_join, last_edge}
 
 -- ---- no edge leads to the first block
-
-first_none : (rule : Rule) (at : List Place) (later : Option (Rule × Place)) → first_with rule at later ≡ None
-    → (at ≡ []) × (later ≡ None)
-first_none rule [] later none = (refl, none)
-first_none rule (at ∷ more) later none = absurd (cc)
-
--- where no rule has a place, one of them has none
-none_first : (places : Rule → List Place) (rules : List Rule) (k : ℕ) (rule : Rule) → first_of places rules ≡ None
-    → slice_get rules k ≡ Some rule → places rule ≡ []
-none_first places [] k rule none at = absurd (none-some rule at)
-none_first places (first ∷ rules) zero rule none at =
-    ap places (sym (same_Some first rule at)) ∙ (first_none first (places first) (first_of places rules) none).0
-none_first places (first ∷ rules) (suc k) rule none at =
-    none_first places rules k rule (first_none first (places first) (first_of places rules) none).1 at
-
-holds_of_unless : (holds : Bool) (at : Place) → unless holds at ≡ [] → holds ≡ true
-holds_of_unless true at none = refl
-holds_of_unless false at none = absurd (cc)
 
 -- an element that passes
 any_has : {X : Type 0} (p : X → Bool) (xs : List X) (x : X) → Contains xs x → p x ≡ true → list_any p xs ≡ true
@@ -87,9 +70,9 @@ target_of_edge f a b edge =
     ∙ any_has (λ (one : Block). list_any at_spot (block_spots one)) f.blocks block there.0 own
 
 -- nothing leads to the first block of a function that is accepted
-pub entry_is_no_target : (signatures : Signatures) (f : Function) → IsWellMade f → IsAccepted signatures f → (a : ℕ)
+pub entry_is_no_target : (signatures : Signatures) (f : Function) → IsAccepted signatures f → (a : ℕ)
     → Edge f a (entry f.blocks) → ⊥
-entry_is_no_target signatures f well_made accepted a edge =
+entry_is_no_target signatures f accepted a edge =
     let target = is_target f (entry f.blocks) in
     let none = none_first (broken signatures f) shape_rules 5 EntryHasPredecessor accepted.shape refl in
     let holds = holds_of_unless (not target) (BlockAt (record { 0 = entry f.blocks })) none in

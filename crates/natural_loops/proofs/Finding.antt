@@ -1,6 +1,6 @@
 -- Blocks that are found from latches, against the edges, up to a header.
-use Rattle.std.proofs.Common.{◌≡◌, ◌≢◌, ℕ, zero, suc, ◌<◌, ◌⊎◌, Bool, true, false, List, [], ◌∷◌, ◌++◌, length, set, replicate}
-use Rattle.std.proofs.Common.{All, Contains, refl, sym, ◌∙◌, subst, inl, inr, arith, length-set}
+use Rattle.std.proofs.Common.{◌≡◌, ◌≢◌, ℕ, zero, suc, ◌<◌, ◌⊎◌, Bool, true, false, List, [], ◌∷◌, ◌++◌, length, set}
+use Rattle.std.proofs.Common.{replicate, All, Contains, refl, sym, ◌∙◌, subst, inl, inr, arith, length-set}
 use Rattle.std.proofs.lemmas.List.{get_or_default, length-replicate}
 use Rattle.std.proofs.lemmas.List.Elements.{All-nil, All-cons, All-push, All-contains, All-weaker}
 use Rattle.scev_base.specs.declared.ids.BlockId.{BlockId}
@@ -120,11 +120,11 @@ module _ (f : Function) (h : ℕ) (graph : List (List ℕ)) where
     known k there =
         path_holds IsFoundHere goes (fresh k there).0
         (record {
-            there = latch_there;
-            reachable = back.reachable;
-            dominated = back.dominated;
-            led = ([], All-nil (IsMarked new), back.edge);
-          })
+          there = latch_there;
+          reachable = back.reachable;
+          dominated = back.dominated;
+          led = ([], All-nil (IsMarked new), back.edge);
+        })
 
     -- a latch from which a search went
     pub AreFoundBehind_more : AreFoundBehind (latches ++ latch ∷ []) new

@@ -1,6 +1,5 @@
 pub mod Marks
 pub mod Walking
-pub mod Trails
 pub mod Bodies
 pub mod Trailing
 pub mod Nesting

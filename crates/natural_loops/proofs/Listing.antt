@@ -1,6 +1,7 @@
 -- Marked blocks in text order.
 use Rattle.std.proofs.Common.{◌≡◌, ◌≢◌, ◌↔◌, ◌==◌, ℕ, zero, suc, Bool, false, List, [], ◌∷◌, get_or, map, filter, Some}
-use Rattle.std.proofs.Common.{◌+◌, ◌<◌, ◌++◌, length, take, true, AllPairs, Contains, eqb-true, refl, sym, ap, ◌∙◌, subst, arith}
+use Rattle.std.proofs.Common.{◌+◌, ◌<◌, ◌++◌, length, take, true, AllPairs, Contains, eqb-true, refl, sym, ap, ◌∙◌}
+use Rattle.std.proofs.Common.{subst, arith}
 use Rattle.std.proofs.lemmas.List.{take_more, map-append, append-nil}
 use Rattle.std.proofs.lemmas.List.Elements.{filter-append}
 use Rattle.std.proofs.lemmas.List.Kept.{AllPairs-filter}
@@ -32,7 +33,7 @@ number_defined f b block found =
 pub marked_in_order : (f : Function) (marks : List Bool) → AllPairs (λ a b. a ≢ b) (defined_blocks f)
     → ((b : ℕ) → IsMarked marks b → (block : Block) × (block_of f b ≡ Some block))
     → AreInTextOrder f (IsMarked marks)
-        (filter (λ (b : BlockId). get_or marks b.0 false) (map (λ (block : Block). block.id) f.blocks))
+    (filter (λ (b : BlockId). get_or marks b.0 false) (map (λ (block : Block). block.id) f.blocks))
 marked_in_order f marks once each =
     let test : BlockId → Bool = λ b. get_or marks b.0 false in
     let ids : List BlockId = map (λ (block : Block). block.id) f.blocks in
@@ -76,7 +77,8 @@ pub marked_more_none : (marks : List Bool) (blocks : List Block) (i : ℕ) (bloc
     → marked_of marks (take (i + 1) blocks) ≡ marked_of marks (take i blocks)
 marked_more_none marks blocks i block within is unmarked =
     let none : marked_of marks (block ∷ []) ≡ [] = rw unmarked refl in
-    marked_more marks blocks i block within is ∙ ap (λ (ids : List BlockId). marked_of marks (take i blocks) ++ ids) none
+    marked_more marks blocks i block within is
+    ∙ ap (λ (ids : List BlockId). marked_of marks (take i blocks) ++ ids) none
     ∙ append-nil (marked_of marks (take i blocks))
 
 -- what holds of the same blocks has the same list

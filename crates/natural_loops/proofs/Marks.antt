@@ -3,7 +3,7 @@ use Rattle.std.proofs.Common.{◌≡◌, ◌↔◌, ℕ, zero, suc, ◌+◌, Lis
 use Rattle.std.proofs.Common.{inl, inr, arith}
 use Rattle.std.proofs.lemmas.Bool.{false≢true}
 use Rattle.flow_graph.specs.Graph.{IsMarked}
-use Rattle.natural_loops.proofs.Trails.{contains_none, contains_later, contains_cases}
+use Rattle.ssa_check.proofs.Elements.{contains_none, contains_later, contains_cases}
 use Rattle.natural_loops.specs.Table.{marked_from}
 
 -- a marked place is in the list

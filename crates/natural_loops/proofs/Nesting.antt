@@ -7,7 +7,8 @@ use Rattle.ir_model.specs.Shapes.{entry}
 use Rattle.ir_model.specs.Walks.{Edge, Trail}
 use Rattle.ir_model.specs.Walks.Trail.{begins, enters}
 use Rattle.loop_regions.specs.Loops.{Loop, IsRegion, IsLoop}
-use Rattle.natural_loops.proofs.Trails.{newest, reaches, trail_to, dominates_one_way}
+use Rattle.ssa_check.proofs.Trails.{newest, reaches, trail_to}
+use Rattle.ssa_check.proofs.Dominance.{dominates_one_way}
 use Rattle.natural_loops.proofs.Walking.{Inside, inside_join}
 use Rattle.natural_loops.proofs.Trailing.{inside_weaker, block_before, entry_outside}
 use Rattle.natural_loops.proofs.Bodies.{header_dominates}

@@ -10,8 +10,9 @@ use Rattle.flow_graph.proofs.WalkPaths.{walk_join}
 use Rattle.ssa_check.specs.Checked.{Dominates}
 use Rattle.loop_regions.specs.Loops.{Loop, IsLoop}
 use Rattle.natural_loops.specs.Sides.{IsLatch, WalkInside}
-use Rattle.natural_loops.proofs.Trails.{contains_none, contains_later, contains_cases, newest, reaches, trail_to}
-use Rattle.natural_loops.proofs.Trails.{arrives, dominates_itself, dominates_one_way}
+use Rattle.ssa_check.proofs.Elements.{contains_none, contains_later, contains_cases}
+use Rattle.ssa_check.proofs.Trails.{newest, reaches, trail_to, arrives}
+use Rattle.ssa_check.proofs.Dominance.{dominates_itself, dominates_one_way}
 use Rattle.natural_loops.proofs.Trailing.{last_step, trail_along, dominator_before, dominates_back}
 use Rattle.natural_loops.proofs.Trailing.{block_before, entry_outside}
 use Rattle.natural_loops.proofs.Bodies.{header_dominates}

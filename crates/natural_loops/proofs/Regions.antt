@@ -1,9 +1,10 @@
 -- The loops of a function, header by header.
-use Rattle.std.proofs.Common.{◌≡◌, ◌≢◌, ℕ, ◌+◌, ◌<◌, ◌≤◌, Bool, List, [], ◌∷◌, ◌++◌, length, get_or, map, Some, All, AllPairs}
-use Rattle.std.proofs.Common.{Contains, refl, sym, ap, ◌∙◌, subst, inl, inr, arith}
+use Rattle.std.proofs.Common.{◌≡◌, ◌≢◌, ℕ, ◌+◌, ◌<◌, ◌≤◌, Bool, List, [], ◌∷◌, ◌++◌, length, get_or, map, Some, All}
+use Rattle.std.proofs.Common.{AllPairs, Contains, refl, sym, ap, ◌∙◌, subst, inl, inr, arith}
 use Rattle.std.proofs.lemmas.Bool.{cases_eq}
 use Rattle.std.proofs.lemmas.List.{get_or_default}
-use Rattle.std.proofs.lemmas.List.Elements.{All-nil, All-push, All-get_or, All-weaker, Contains-append_left, Contains-push}
+use Rattle.std.proofs.lemmas.List.Elements.{All-nil, All-push, All-get_or, All-weaker, Contains-append_left}
+use Rattle.std.proofs.lemmas.List.Elements.{Contains-push}
 use Rattle.std.proofs.lemmas.List.Quantifiers.{all_pairs_push}
 use Rattle.scev_base.specs.declared.ids.BlockId.{BlockId}
 use Rattle.ir_model.specs.declared.function.Block.{Block}
@@ -14,7 +15,7 @@ use Rattle.flow_graph.specs.EdgeLists.{block_id}
 use Rattle.flow_graph.specs.TextOrder.{StandsBefore}
 use Rattle.flow_graph.proofs.FlowLemmas.{in_text_order, numbered, numbers_of_blocks}
 use Rattle.flow_graph.proofs.WalkPaths.{walk_join}
-use Rattle.loop_regions.specs.Loops.{IsLoop}
+use Rattle.loop_regions.specs.Loops.{Loop, IsLoop}
 use Rattle.natural_loops.specs.Backward.{IsBackEdge, IsBody}
 use Rattle.natural_loops.specs.Sides.{AreInTextOrder, IsLatch}
 use Rattle.natural_loops.specs.Table.{RegionParts, loop_of, IsRegionOf, AreAllLoops}
@@ -127,13 +128,40 @@ module _ (f : Function) (ids : List BlockId) where
         (later n regions are.places) (n, omega arith, sym is);
     ordered = all_pairs_push (λ (a b : RegionParts). StandsBefore f a.header.0 b.header.0) regions region are.ordered
         (λ k d low.
-            let one = get_or regions k d in
-            let place =
-            All-get_or (λ (one : RegionParts). (k : ℕ) × (k < n) × (id_at k ≡ one.header)) regions k d low are.places in
-            let before = order place.0 n (record { 0 = 0 }) place.1 within in
-            subst (λ (id : BlockId). StandsBefore f one.header.0 id.0) (sym is)
-            (subst (λ (id : BlockId). StandsBefore f id.0 (id_at n).0) place.2 before));
+        let one = get_or regions k d in
+        let place =
+        All-get_or (λ (one : RegionParts). (k : ℕ) × (k < n) × (id_at k ≡ one.header)) regions k d low are.places in
+        let before = order place.0 n (record { 0 = 0 }) place.1 within in
+        subst (λ (id : BlockId). StandsBefore f one.header.0 id.0) (sym is)
+        (subst (λ (id : BlockId). StandsBefore f id.0 (id_at n).0) place.2 before));
   }
+
+-- the header of a loop is one of the function's blocks, and has a latch
+record IsHeaderAt (f : Function) (ids : List BlockId) (h : ℕ) : Type 0 where
+  place : ℕ
+  within : place < length ids
+  at : id_at f ids place ≡ block_id h
+  latch : ℕ
+  back : IsBackEdge f latch (id_at f ids place).0
+
+header_at : (f : Function) → ((a : ℕ) → Edge f a (entry f.blocks) → ⊥) → (ids : List BlockId)
+    → ids ≡ map (λ (block : Block). block.id) f.blocks → (l : Loop) → IsLoop f l → IsHeaderAt f ids l.header
+header_at f first ids is l loop =
+    let back = loop_has_latch f first l loop in
+    let turn = loop.region.connected l.header l.header loop.region.header loop.region.header in
+    let block = walk_from_block f l.header l.header turn.0 turn.2 in
+    let numbers = numbers_of_blocks f.blocks ids is in
+    let named = numbered ids (defined_blocks f) numbers (block_id l.header) in
+    let there : Contains ids (block_id l.header) = named.1 (number_defined f l.header block.0 block.1) in
+    let at : id_at f ids there.0 ≡ block_id l.header =
+    get_or_default ids there.0 (record { 0 = 0 }) (block_id l.header) there.1 ∙ there.2 in
+    record {
+      place = there.0;
+      within = there.1;
+      at = at;
+      latch = back.0;
+      back = subst (λ (id : BlockId). IsBackEdge f back.0 id.0) (sym at) back.1;
+    }
 
 -- the loops with any block as their header are all
 pub AreLoopsTo_all : (f : Function) → ((a : ℕ) → Edge f a (entry f.blocks) → ⊥) → (ids : List BlockId)
@@ -142,16 +170,9 @@ pub AreLoopsTo_all : (f : Function) → ((a : ℕ) → Edge f a (entry f.blocks)
 AreLoopsTo_all f first ids is n regions end are = record {
   each = are.each;
   all = λ l loop.
-      let back = loop_has_latch f first l loop in
-      let turn = loop.region.connected l.header l.header loop.region.header loop.region.header in
-      let block = walk_from_block f l.header l.header turn.0 turn.2 in
-      let numbers = numbers_of_blocks f.blocks ids is in
-      let place =
-      (numbered ids (defined_blocks f) numbers (block_id l.header)).1 (number_defined f l.header block.0 block.1) in
-      let at : get_or ids place.0 (record { 0 = 0 }) ≡ block_id l.header =
-      get_or_default ids place.0 (record { 0 = 0 }) (block_id l.header) place.1 ∙ place.2 in
-      let found = are.all place.0 back.0 (omega (arith, place.1, end))
-      (subst (λ (id : BlockId). IsBackEdge f back.0 id.0) (sym at) back.1) in
-      (found.0, found.1, ap (λ (id : BlockId). id.0) (found.2 ∙ at));
+      let header = header_at f first ids is l loop in
+      let low : header.place < n = omega (arith, header.within, end) in
+      let found = are.all header.place header.latch low header.back in
+      (found.0, found.1, ap (λ (id : BlockId). id.0) (found.2 ∙ header.at));
   ordered = are.ordered;
 }

@@ -8,7 +8,8 @@ use Rattle.ir_model.specs.Walks.{Edge, Walk, Reachable, Trail}
 use Rattle.ir_model.specs.Walks.Trail.{begins, enters}
 use Rattle.ssa_check.specs.Checked.{Dominates}
 use Rattle.loop_regions.specs.Loops.{Loop, IsRegion}
-use Rattle.natural_loops.proofs.Trails.{contains_none, contains_later, contains_cases, cases_contains, older}
+use Rattle.ssa_check.proofs.Elements.{contains_none, contains_later, contains_cases, cases_contains}
+use Rattle.ssa_check.proofs.Dominance.{older}
 use Rattle.natural_loops.proofs.Walking.{Inside, last_edge}
 
 module _ (f : Function) where

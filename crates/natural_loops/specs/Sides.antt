@@ -46,8 +46,8 @@ pub record ComesBefore (f : Function) (l : Loop) (a b : ℕ) : Type 0 where
   pub later : b ≢ l.header
   pub passed : (way : WalkInside f l b) → Contains (l.header ∷ way.between) a
 
--- These are the exits of the loop: in the order in which they are passed where each turn passes all of them, and else in
--- text order.
+-- These are the exits of the loop: in the order in which they are passed where each turn passes all of them, and else
+-- in text order.
 pub record AreExits (f : Function) (l : Loop) (exits : List BlockId) : Type 0 where
   pub each : (b : BlockId) → Contains exits b ↔ IsExit f l b.0
   pub passed : ((b : ℕ) → IsExit f l b → IsPassedEachTurn f l b) → AllPairs (λ a b. ComesBefore f l a.0 b.0) exits

@@ -12,8 +12,8 @@ use sqlite_items::Items;
 use ssa_check::Checked;
 use std::alloc::{AllocError, Global};
 
-/// Marks of a reachable block with these latches, and of the blocks that are found from them against the edges, up to that
-/// block.
+/// Marks of a reachable block with these latches, and of the blocks that are found from them against the edges, up to
+/// that block.
 pub(crate) fn blocks_of(
     alloc: Global,
     c: &Checked,

@@ -1,7 +1,6 @@
 //! The loops of a function, by their headers.
 
 ghost use Rattle.std.specs.Prelude.{◌≡◌, ◌<◌, length, IfOk, IfSome, IfNone, slice_index_or, ℕ, false};
-ghost use Rattle.scev_base.specs.declared.ids.BlockId.{BlockId as Block};
 ghost use Rattle.ir_model.specs.Shapes.{entry};
 ghost use Rattle.ir_model.specs.Walks.{Edge};
 ghost use Rattle.natural_loops.specs.Backward.{IsBackEdge, IsBackward};
@@ -10,6 +9,7 @@ ghost use Rattle.natural_loops.specs.Table.{IsRegionOf, AreAllLoops};
 use crate::backward::backward;
 use crate::blocks::blocks_of;
 use crate::latches::latches;
+use crate::listed::text_blocks;
 use bit_rows::BitRow;
 use scev_base::BlockId;
 use sqlite_items::Items;
@@ -51,9 +51,8 @@ pub(crate) fn regions(alloc: Global, c: &Checked) -> Result<Items<Region>, Alloc
     ensures { IfOk result (λ regions. AreAllLoops c.now.function regions) }
 {
     let backward = backward(alloc, c)?;
-    let f = c.function();
     let mut found = Items::new(alloc);
-    for block in f.blocks.as_slice() {
+    for block in text_blocks(c) {
         if let Some(region) = region_at(alloc, c, backward.as_slice(), block.id)? {
             found.push(region)?;
         }
@@ -71,7 +70,8 @@ fn region_at(
     requires header { h.0 < length c.now.function.labels }
     requires backward { IsBackward c.now.function backward.now }
     requires first { (a : ℕ) → Edge c.now.function a (entry c.now.function.blocks) → ⊥ }
-    ensures loop_ { IfOk result (λ found. IfSome found (λ region. (region.header ≡ h) × IsRegionOf c.now.function region)) }
+    ensures loop_ { IfOk result (λ found. IfSome found (λ region.
+        (region.header ≡ h) × IsRegionOf c.now.function region)) }
     ensures none { IfOk result (λ found. IfNone found ((b : ℕ) → IsBackEdge c.now.function b h.0 → ⊥)) }
 {
     let latches = latches(alloc, c, h)?;

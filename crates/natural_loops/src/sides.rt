@@ -81,7 +81,8 @@ fn sides_of(
 /// The reachable blocks outside a loop with an edge to its header, in text order.
 fn entering(alloc: Global, c: &Checked, region: &Region) -> Result<Items<BlockId>, AllocError>
     requires { IsRegionOf c.now.function region.now }
-    ensures { IfOk result (λ found. AreInTextOrder c.now.function (IsEntering c.now.function (loop_of region.now)) found) }
+    ensures { IfOk result (λ found. AreInTextOrder c.now.function
+        (IsEntering c.now.function (loop_of region.now)) found) }
 {
     let marks = entering_marks(alloc, c, region)?;
     listed(alloc, c, &marks)

@@ -38,8 +38,8 @@ impl Model for LoopTable {
     ghost invariant = { λ table. length table.sides ≡ length table.regions };
 }
 
-/// The natural loops of a function that is accepted. It takes a search along the edges for each loop, and for each block
-/// and loop a step or two. The error comes only where there is no memory.
+/// The natural loops of a function that is accepted. It takes a search against the edges for each loop, and for each
+/// block and loop a step or two. The error comes only where there is no memory.
 pub fn loops(alloc: Global, c: &Checked) -> Result<LoopTable, AllocError>
     ensures { IfOk result (λ table. AreLoopsOf c.now.function table) }
 {

@@ -3,7 +3,6 @@
 use crate::error::CalculatorError;
 use crate::sheet::sheet;
 use crate::tested::{alike, at_least, at_most, tree, trees_of};
-use ir_model::Function;
 use ir_printer::Names;
 use scev_arena::Arena;
 use scev_base::{BlockId, ExprId, LoopId, LoopNest, ValueId, Width};
@@ -27,7 +26,6 @@ pub struct Calculator {
     alloc: Global,
     arena: Arena,
     nest: LoopNest,
-    sheet: Function,
 }
 
 /// One loop, in no other.
@@ -43,7 +41,6 @@ impl Calculator {
             alloc,
             arena: Arena::new(alloc),
             nest: one_loop(alloc)?,
-            sheet: sheet(alloc)?,
         })
     }
 
@@ -159,7 +156,8 @@ impl Calculator {
     /// The text of an expression.
     pub fn text(&self, id: ExprId) -> Result<Vec<u8>, CalculatorError> {
         tree(&self.arena, id)?;
-        let names = Names::of(self.alloc, &[], &self.sheet)?;
+        let sheet = sheet(self.alloc)?;
+        let names = Names::of(self.alloc, &[], &sheet)?;
         Ok(expr_text(self.alloc, &self.arena, &names, &[BlockId(0)], id)?)
     }
 }

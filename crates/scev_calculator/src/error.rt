@@ -6,7 +6,8 @@ use std::alloc::AllocError;
 /// Why a calculator answers nothing.
 #[derive(Clone, Copy, Debug, PartialEq, Eq)]
 pub enum CalculatorError {
-    /// The call has a condition that doesn't hold: a place holds no tree, widths differ, or too few expressions are left.
+    /// The call has a condition that doesn't hold: a place holds no tree, widths differ, or too few expressions are
+    /// left.
     Unfit,
     /// The expression has no value at the turn.
     Hindered,

@@ -1,5 +1,5 @@
 -- Which recurrences have a value at a count.
-use Rattle.std.proofs.Common.{◌≡◌, ℕ, ◌≤◌, false, List, [], ◌∷◌, length, map, Option, Some, None, true, is_some, refl, arith}
+use Rattle.std.proofs.Common.{◌≡◌, ℕ, false, List, [], ◌∷◌, length, map, Option, Some, None, is_some, refl}
 use Rattle.scev_base.specs.declared.ids.ExprId.{ExprId}
 use Rattle.scev_tree.specs.Tree.{Tree, parts_of}
 use Rattle.scev_forms.specs.Turns.{is_countable}

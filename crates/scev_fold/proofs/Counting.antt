@@ -121,7 +121,7 @@ module _ (parents : List (Option ℕ)) (w n i : ℕ) (ids : List ExprId) {whole 
     module _ {last : List Node} (again : GoesOn middle last) (product : ExprId) (formed : (tree : Tree)
         × (tree_product parents w (tree_of middle id) (tree_of middle times) ≡ Done tree) × IsAt last w product tree)
       where
-        -- and so does the sum with it
+        -- the sum with that product leads on to the whole
         pub more_leads : LeadsOn (tree_sum parents w (tree_of last sum) (tree_of last product))
             (counted_parts parents w n (i + 1 + 1) (trees_at first others)) whole
         more_leads =
@@ -132,6 +132,7 @@ module _ (parents : List (Option ℕ)) (w n i : ℕ) (ids : List ExprId) {whole 
                   ∙ led_on formed.0 times_leads formed.1;
             }
 
+        -- the sum that was formed, with the parts behind it left
         pub part_counted : {new : List Node} {more : ExprId} → GoesOn last new
             → (tree : Tree) × (tree_sum parents w (tree_of last sum) (tree_of last product) ≡ Done tree)
             × IsAt new w more tree
@@ -156,12 +157,14 @@ no_step parents w count nodes first (step ∷ more ∷ others) other = refl
 
 module _ (parents : List (Option ℕ)) (w : ℕ) (count : Tree) (nodes : List Node) where
   -- without parts it is 0
-  pub no_parts_counted : (ids : List ExprId) → ids ≡ [] → counted parents w count (trees_at nodes ids) ≡ Done (constant w 0)
+  pub no_parts_counted : (ids : List ExprId) → ids ≡ []
+      → counted parents w count (trees_at nodes ids) ≡ Done (constant w 0)
   unfolding counted
   no_parts_counted ids e = ap (λ l. counted parents w count (trees_at nodes l)) e
 
   module _ {ids others : List ExprId} {first : ExprId} (is : ids ≡ first ∷ others) {number : Option ℕ}
       (same : number ≡ number_of count) where
+    -- by whether the count is a number
     by_number : counted_by parents w count (tree_of nodes first) (trees_at nodes others) number
         ≡ counted parents w count (trees_at nodes ids)
     unfolding counted

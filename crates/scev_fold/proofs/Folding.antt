@@ -22,11 +22,11 @@ pub record IsFold (pick : Tree → Tree → Outcome Tree) (fold : Tree → List 
 
 pub minimum_folds : (k : Kind) (w : ℕ) → IsFold (tree_minimum k w) (minimum_of_all k w)
 unfolding minimum_of_all
-minimum_folds k w = record { none = λ tree. refl; more = λ tree other trees. refl; }
+minimum_folds k w = record { none = λ tree. refl; more = λ tree other trees. refl }
 
 pub sequence_folds : (w : ℕ) → IsFold (tree_sequence w) (sequence_of_all w)
 unfolding sequence_of_all
-sequence_folds w = record { none = λ tree. refl; more = λ tree other trees. refl; }
+sequence_folds w = record { none = λ tree. refl; more = λ tree other trees. refl }
 
 -- what is told of one width is told of one that is the same
 pub told_wide : {v w : ℕ} (new : List Node) (form : ℕ → Outcome Tree) (result : Result ExprId FoldError)

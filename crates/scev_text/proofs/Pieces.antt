@@ -6,7 +6,7 @@ use Rattle.std.proofs.lemmas.Bool.Decides.{nat_tests}
 use Rattle.std.proofs.lemmas.Result.{on_ok_weaker}
 use Rattle.std.specs.Prelude.{Result, OnOk, Bool, true, false, ◌==◌}
 use Rattle.ir_printer.proofs.Joined.{joined-cons}
-use Rattle.scev_text.specs.Text.{listed, each_behind, enclosed, constant_text, with_coefficient, monomial_text}
+use Rattle.scev_text.specs.Text.{listed, each_behind, enclosed, constant_text, monomial_text}
 
 -- a list from one item on
 pub from_here : {A : Type 0} (xs : List A) (at next : ℕ) (d x : A) → next ≡ suc at → at < length xs → x ≡ get_or xs at d
@@ -55,6 +55,11 @@ pub behind_done : (before old out : List ℕ) (left : List (List ℕ)) → lengt
     → out ≡ old
 behind_done before old out [] none h = sym (append-nil out) ∙ h
 behind_done before old out (x ∷ xs) none h = absurd (omega (arith, none))
+
+-- there are none to write
+pub listed_none : (between old : List ℕ) (texts : List (List ℕ)) → length texts ≡ 0 → old ≡ old ++ listed between texts
+listed_none between old [] none = sym (append-nil old)
+listed_none between old (x ∷ xs) none = absurd (omega (arith, none))
 
 -- the first one is written, and then the others
 pub listed_all : (between old mid new text : List ℕ) (texts all : List (List ℕ)) → all ≡ text ∷ texts

@@ -1,11 +1,11 @@
 -- The texts of what stands at the places of an arena.
-use Rattle.std.proofs.Common.{◌≡◌, ℕ, zero, suc, ◌<◌, ◌≤◌, List, [], ◌∷◌, ◌++◌, length, get_or, drop, map, codes}
-use Rattle.std.proofs.Common.{refl, sym, ap, subst, ◌∙◌, arith, Option, Some, None, slice_get}
+use Rattle.std.proofs.Common.{◌≡◌, ℕ, suc, ◌<◌, List, [], ◌∷◌, ◌++◌, length, get_or, map, codes}
+use Rattle.std.proofs.Common.{refl, sym, ap, subst, ◌∙◌, arith}
 use Rattle.scev_base.specs.declared.ids.BlockId.{BlockId}
 use Rattle.scev_base.specs.declared.ids.ExprId.{ExprId}
 use Rattle.scev_tree.specs.declared.kind.Kind.{Kind}
 use Rattle.scev_tree.specs.declared.kind.Kind.TheVariants as kind
-use Rattle.scev_tree.specs.Tree.{Tree, Terms, Factors, Atom, Parts, polynomial, atom, parts_of, width_of}
+use Rattle.scev_tree.specs.Tree.{Tree, Terms, Atom, Parts, polynomial, atom, parts_of, width_of}
 use Rattle.scev_tree.specs.Canonical.{HasParts}
 use Rattle.poly_terms.specs.declared.term.Term.{Term}
 use Rattle.scev_arena.specs.declared.node.Node.{Node}

@@ -1,13 +1,13 @@
-mod Elements
-mod Trails
-mod Dominance
-mod OnceDefined
-mod Limited
-mod CountLemmas
+pub mod Elements
+pub mod Trails
+pub mod Dominance
+pub mod OnceDefined
+pub mod Limited
+pub mod CountLemmas
 mod OperandUses
 mod RankLemmas
-mod DefinitionLemmas
-mod SizeLemmas
+pub mod DefinitionLemmas
+pub mod SizeLemmas
 mod UseLemmas
 mod RowLemmas
 mod ReadLemmas

@@ -21,12 +21,12 @@ use Rattle.ssa_check.proofs.Elements.{append_none}
 
 -- ---- no rule has a place
 
-first_none : (rule : Rule) (at : List Place) (later : Option (Rule × Place)) → first_with rule at later ≡ None
+pub first_none : (rule : Rule) (at : List Place) (later : Option (Rule × Place)) → first_with rule at later ≡ None
     → (at ≡ []) × (later ≡ None)
 first_none rule [] later none = (refl, none)
 first_none rule (at ∷ more) later none = absurd (cc)
 
-none_first : (places : Rule → List Place) (rules : List Rule) (k : ℕ) (rule : Rule) → first_of places rules ≡ None
+pub none_first : (places : Rule → List Place) (rules : List Rule) (k : ℕ) (rule : Rule) → first_of places rules ≡ None
     → slice_get rules k ≡ Some rule → places rule ≡ []
 none_first places [] k rule none at = absurd (none-some rule at)
 none_first places (first ∷ rules) zero rule none at =
@@ -43,7 +43,7 @@ module _ (signatures : Signatures) (f : Function) (shape : first_broken signatur
 
 -- ---- limits
 
-holds_of_unless : (holds : Bool) (at : Place) → unless holds at ≡ [] → holds ≡ true
+pub holds_of_unless : (holds : Bool) (at : Place) → unless holds at ≡ [] → holds ≡ true
 holds_of_unless true at none = refl
 holds_of_unless false at none = absurd (cc)
 

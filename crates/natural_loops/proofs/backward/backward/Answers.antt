@@ -1,10 +1,10 @@
-use Rattle.std.proofs.Common.{◌≡◌, ◌<◌, ℕ, List, Vec, Global, All, length, sym, ap, ◌∙◌, subst, arith}
+use Rattle.std.proofs.Common.{ℕ, List, Vec, Global, sym, subst}
 use Rattle.std.proofs.lemmas.Result.{IfOk-weaker}
 use Rattle.ir_model.specs.declared.function.Function.{Function}
 use Rattle.ir_model.specs.WellMade.{HasIds}
 use Rattle.flow_graph.specs.Graph.{IsClosed, IsGraphOf, IsReversed}
 use Rattle.natural_loops.specs.Backward.{IsBackward}
-use Rattle.natural_loops.proofs.Backwards.{AreReachableBelow, reachable_nodes, backward_arcs}
+use Rattle.natural_loops.proofs.Backwards.{reachable_nodes, backward_arcs}
 use Rattle.natural_loops.proofs.backward.backward.Goals as goal
 
 pub reversed-requires-clause-closed : goal.reversed-requires-clause-closed
@@ -31,6 +31,6 @@ returns c =
     (λ (out : Vec (List ℕ) Global). IsReversed c.as_slice.result.now c.as_slice-2.result.now out.items)
     (λ (out : Vec (List ℕ) Global). IsBackward f out.items)
     (λ out turned.
-        backward_arcs f graph nodes is_graph c.in_ok-nodes.ensures ids out.items
-        (rw (c.as_slice.ensures, c.as_slice-2.ensures.value) at turned))
+    backward_arcs f graph nodes is_graph c.in_ok-nodes.ensures ids out.items
+    (rw (c.as_slice.ensures, c.as_slice-2.ensures.value) at turned))
     c.reversed.ensures

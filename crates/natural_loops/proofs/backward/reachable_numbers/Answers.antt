@@ -1,7 +1,8 @@
 use Rattle.std.proofs.Common.{◌≡◌, ℕ, ◌+◌, List, [], ◌∷◌, ◌++◌, length, Vec, Global, sym, ap, ◌∙◌, subst, arith}
 use Rattle.std.proofs.lemmas.Bool.{both_ways}
 use Rattle.ir_model.specs.declared.function.Function.{Function}
-use Rattle.natural_loops.proofs.Backwards.{AreReachableBelow, AreReachableBelow_none, AreReachableBelow_skip, AreReachableBelow_more}
+use Rattle.natural_loops.proofs.Backwards.{AreReachableBelow, AreReachableBelow_none, AreReachableBelow_skip}
+use Rattle.natural_loops.proofs.Backwards.{AreReachableBelow_more}
 use Rattle.natural_loops.proofs.backward.reachable_numbers.Goals as goal
 use Rattle.natural_loops.proofs.backward.reachable_numbers.Goals.{then-reachable+in_ok-push, else-reachable}
 

@@ -1,12 +1,13 @@
-use Rattle.std.proofs.Common.{◌≡◌, ◌<◌, ℕ, false, List, length, get_or, replicate, take, sym, ap, ◌∙◌, subst, arith}
+use Rattle.std.proofs.Common.{◌≡◌, ◌<◌, ℕ, false, List, length, get_or, take, sym, ap, ◌∙◌, subst, arith}
 use Rattle.std.proofs.lemmas.Bool.{both_ways}
 use Rattle.std.proofs.lemmas.List.{take_more, take_all, length-replicate}
 use Rattle.std.proofs.lemmas.List.Elements.{Contains-get_or}
 use Rattle.scev_base.specs.declared.ids.BlockId.{BlockId}
 use Rattle.ir_model.specs.declared.function.Function.{Function}
-use Rattle.natural_loops.specs.Backward.{IsBackEdge, IsBackward}
+use Rattle.natural_loops.specs.Backward.{IsBackEdge}
 use Rattle.natural_loops.specs.Sides.{AreInTextOrder}
-use Rattle.natural_loops.proofs.Finding.{AreFoundBehind, AreFoundBehind_none, AreFoundBehind_skip, AreFoundBehind_more, AreFoundBehind_all}
+use Rattle.natural_loops.proofs.Finding.{AreFoundBehind, AreFoundBehind_none, AreFoundBehind_skip, AreFoundBehind_more}
+use Rattle.natural_loops.proofs.Finding.{AreFoundBehind_all}
 use Rattle.natural_loops.proofs.blocks.blocks_of.Goals as goal
 use Rattle.natural_loops.proofs.blocks.blocks_of.Goals.{then-not-get+in_ok-collect, else-not-get}
 

@@ -1,16 +1,17 @@
-use Rattle.std.proofs.Common.{◌≡◌, ◌<◌, ℕ, Bool, true, false, List, length, get_or, replicate, take, sym, ap, ◌∙◌, subst, arith}
+use Rattle.std.proofs.Common.{◌≡◌, List, length, get_or, take, ap, ◌∙◌, subst, arith}
 use Rattle.std.proofs.lemmas.Bool.{both_ways}
 use Rattle.std.proofs.lemmas.List.{take_more, take_all}
 use Rattle.scev_base.specs.declared.ids.BlockId.{BlockId}
 use Rattle.ir_model.specs.declared.function.Function.{Function}
 use Rattle.ir_model.specs.WellMade.{HasIds}
-use Rattle.ir_model.specs.Walks.{Edge, Reachable}
-use Rattle.ssa_check.specs.Checked.{Dominates}
 use Rattle.flow_graph.specs.EdgeLists.{preds_of}
 use Rattle.natural_loops.specs.Backward.{IsBackEdge}
-use Rattle.natural_loops.proofs.LatchMarks.{AreLatchMarks, edge_labelled, edge_of_pred, AreLatchMarks_none, AreLatchMarks_skip, AreLatchMarks_more, AreLatchMarks_all}
+use Rattle.natural_loops.proofs.LatchMarks.{AreLatchMarks, edge_labelled, edge_of_pred, AreLatchMarks_none}
+use Rattle.natural_loops.proofs.LatchMarks.{AreLatchMarks_skip, AreLatchMarks_more, AreLatchMarks_all}
 use Rattle.natural_loops.proofs.latches.latch_marks.Goals as goal
-use Rattle.natural_loops.proofs.latches.latch_marks.Goals.{then-reachable+then-dominates, else-reachable, else-reachable-via-then-reachable+else-dominates, else-reachable-via-else-reachable}
+use Rattle.natural_loops.proofs.latches.latch_marks.Goals.{then-reachable+then-dominates, else-reachable}
+use Rattle.natural_loops.proofs.latches.latch_marks.Goals.{else-reachable-via-then-reachable+else-dominates}
+use Rattle.natural_loops.proofs.latches.latch_marks.Goals.{else-reachable-via-else-reachable}
 
 pub set-requires : goal.set-requires
 set-requires c =
@@ -60,12 +61,12 @@ loop-from-preserved c =
           rw w.marks-is
           (AreLatchMarks_skip f h (take i froms) marks from
           (λ reachable dominates.
-              elim w.else-reachable.branch [
-                | else-reachable-via-then-reachable+else-dominates v ↦
-                    both_ways v.dominates.result v.if-dominates.false (v.dominates.ensures.1 dominates)
-                | else-reachable-via-else-reachable v ↦
-                    both_ways c.reachable.result v.if-reachable.false (reached.1 reachable)
-              ])
+          elim w.else-reachable.branch [
+            | else-reachable-via-then-reachable+else-dominates v ↦
+                both_ways v.dominates.result v.if-dominates.false (v.dominates.ensures.1 dominates)
+            | else-reachable-via-else-reachable v ↦
+                both_ways c.reachable.result v.if-reachable.false (reached.1 reachable)
+          ])
           c.loop-from.invariant)
     ])
 

@@ -13,10 +13,11 @@ loop-block-preserved c =
     let marks = c.args.marks.now in
     let i = c.loop-block.block-index in
     let block = c.block-item.result in
-    let items = c.as_slice-block-items.result.now in
+    let items = c.text_blocks-block-items.result.now in
     elim c.if-get.branch [
       | then-get+in_ok-push w ↦
-          w.found-is ∙ w.in_ok-push.ensures.ok ∙ ap (λ (ids : List BlockId). ids ++ block.id ∷ []) c.loop-block.invariant
+          w.found-is ∙ w.in_ok-push.ensures.ok
+          ∙ ap (λ (ids : List BlockId). ids ++ block.id ∷ []) c.loop-block.invariant
           ∙ sym (marked_more_one marks items i block c.loop-block-test.true c.block-item.is
           (sym c.get.ensures ∙ w.if-get.true))
       | else-get w ↦
@@ -29,9 +30,9 @@ pub returns : goal.returns
 returns c =
     let f : Function = c.args.c.now.function in
     let marks = c.args.marks.now in
-    let items = c.as_slice-block-items.result.now in
+    let items = c.text_blocks-block-items.result.now in
     let all : take c.loop-block.block-index items ≡ f.blocks = take_all c.loop-block.block-index items
-    c.loop-block-test.false ∙ c.as_slice-block-items.ensures ∙ ap (λ (g : Function). g.blocks) c.function-f.ensures.value in
+    c.loop-block-test.false ∙ c.text_blocks-block-items.ensures.value in
     let found : c.loop-block.found ≡ marked_of marks f.blocks = c.loop-block.invariant ∙ ap (marked_of marks) all in
     subst (λ (ids : List BlockId). AreInTextOrder f (IsMarked marks) ids) (sym found)
-    (marked_in_order f marks c.flow.ensures.once c.requires)
+    (marked_in_order f marks c.text_blocks-block-items.ensures.once c.requires)

@@ -15,7 +15,7 @@ first_held : (nodes : List Node) (w : ℕ) {ids others : List ExprId} {first : E
     → IsTreeOfAt nodes w first
 first_held nodes w is h = (subst (AreTreesOfAt nodes w) is h).0
 
--- one place
+-- fewer than two places, but at least one, are one
 one_held : (ids : List ExprId) (other : ExprId) → 1 ≤ length ids → length ids < 2 → ids ≡ get_or ids 0 other ∷ []
 one_held [] other some few = absurd (omega arith)
 one_held (id ∷ []) other some few = refl
@@ -43,11 +43,10 @@ pub returns-in-None-len1-clause-tree : goal.returns-in-None-len1-clause-tree
 returns-in-None-len1-clause-tree c =
     let w = c.args.w.bits in
     let nodes = c.args.arena.now in
-    let told = c.counted_affine.ensures.tree in
     told_same (IsAt c.counted_affine.new.arena w) _ _ c.counted_affine.result
     (affine_counted c.args.nest.now w (tree_of nodes c.args.count) nodes c.in-Some.ensures.cases.0 c.number_of.ensures
     c.in-None-len1.is-0 (one_held c.in-Some.both.1.now _ c.in-None-len1.len_at_least c.in-None-len1.len_below))
-    told
+    c.counted_affine.ensures.tree
 
 pub returns-in-None-default-clause-tree : goal.returns-in-None-default-clause-tree
 returns-in-None-default-clause-tree c =

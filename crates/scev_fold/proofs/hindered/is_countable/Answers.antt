@@ -1,4 +1,4 @@
-use Rattle.std.proofs.Common.{◌≡◌, false, is_some, sym, ap, ◌∙◌, arith}
+use Rattle.std.proofs.Common.{is_some, sym, ap, ◌∙◌, arith}
 use Rattle.scev_arena.specs.Meaning.{tree_of}
 use Rattle.scev_forms.specs.Atoms.{number_of}
 use Rattle.scev_fold.proofs.Countable.{not_countable}

@@ -1,9 +1,8 @@
-use Rattle.std.proofs.Common.{◌≡◌, ◌+◌, ◌++◌, ◌<◌, ◌≤◌, ℕ, ap, List, length, get_or, drop, map, refl, sym, subst, ◌∙◌}
+use Rattle.std.proofs.Common.{◌+◌, ◌++◌, ◌<◌, ◌≤◌, ℕ, ap, List, length, get_or, drop, map, refl, sym, subst, ◌∙◌}
 use Rattle.std.proofs.Common.{arith, add-one, codes, length-drop}
 use Rattle.scev_base.specs.declared.ids.ExprId.{ExprId}
-use Rattle.poly_terms.specs.declared.term.Term.{Term}
 use Rattle.scev_tree.specs.Tree.{parts_of}
-use Rattle.scev_arena.specs.Meaning.{meanings, tree_of, factors_at, terms_at}
+use Rattle.scev_arena.specs.Meaning.{meanings, tree_of, factors_at}
 use Rattle.scev_arena.specs.Standing.{AreTrees, AreAtoms, AreOverAtoms}
 use Rattle.scev_walk.specs.Reading.{AreBelow, AreOverBelow}
 use Rattle.scev_walk.proofs.Among.{tree_among, atom_among, term_among}
@@ -11,8 +10,8 @@ use Rattle.scev_walk.proofs.Below.{below_among, over_below_among}
 use Rattle.ir_printer.specs.Shown.{shown}
 use Rattle.std.proofs.lemmas.Result.{on_ok_weaker}
 use Rattle.scev_text.specs.Text.{monomial_text, factors_texts, parts_texts}
-use Rattle.scev_text.proofs.Pieces.{hands_on, is_none, is_some, from_here, behind_next, behind_done, listed_all}
-use Rattle.scev_text.proofs.Pieces.{enclosed-one, enclosed_all, enclosed_listed, cast_written}
+use Rattle.scev_text.proofs.Pieces.{hands_on, is_none, is_some, from_here, behind_next, behind_done}
+use Rattle.scev_text.proofs.Pieces.{listed_none, listed_all, enclosed-one, enclosed_all, enclosed_listed, cast_written}
 use Rattle.scev_text.proofs.Pieces.{monomial-none, monomial-plain, monomial-many}
 use Rattle.scev_text.proofs.Texts.{parts_first, parts_many, factors_first, factors_many, terms_first, terms_many}
 use Rattle.scev_text.proofs.Texts.{one_part, many_parts, atom_told, cast_told, sum_none, sum_some, sum_one}
@@ -137,6 +136,11 @@ push_parts-push_further_parts-requires t c =
     let trees = subst (AreTrees c.args.arena.now) c.in-Some.ensures.cases.0 c.requires.trees in
     let below = subst (AreBelow c.args.below) c.in-Some.ensures.cases.0 c.requires.below in
     (omega (arith, c.decreases), (trees.1, below.1))
+
+pub push_parts-returns-in_default : goal.push_parts-returns-in_default
+push_parts-returns-in_default t c =
+    let many = parts_many (shown c.args.names.now) c.args.headers.now c.args.arena.now c.args.parts.now in
+    listed_none c.args.between.now c.args.out.now.items _ (many ∙ c.in_default.ensures.cases)
 
 pub push_parts-returns : goal.push_parts-returns
 push_parts-returns t c =
