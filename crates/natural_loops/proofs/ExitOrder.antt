@@ -16,7 +16,7 @@ use Rattle.ssa_check.specs.Checked.{Dominates}
 use Rattle.loop_regions.specs.Loops.{Loop, IsLoop}
 use Rattle.natural_loops.specs.Sides.{AreInTextOrder, IsLatch, IsExit, IsPassedEachTurn, ComesBefore, AreExits}
 use Rattle.natural_loops.proofs.Walking.{last_edge}
-use Rattle.natural_loops.proofs.Trails.{dominates_one_way}
+use Rattle.ssa_check.proofs.Dominance.{dominates_one_way}
 use Rattle.natural_loops.proofs.Bodies.{header_dominates}
 use Rattle.natural_loops.proofs.Passing.{dominators_chain, walks_pass, turn_passes}
 

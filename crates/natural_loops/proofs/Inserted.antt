@@ -6,7 +6,7 @@ use Rattle.std.proofs.lemmas.Bool.{cases_eq, cases_lt}
 use Rattle.std.proofs.lemmas.List.{take-append-drop}
 use Rattle.std.proofs.lemmas.List.Elements.{Contains-append_left, Contains-append_right, Contains-append_cases}
 use Rattle.std.proofs.lemmas.List.Edits.{length-insert, get_or-insert_below, get_or-insert_at, get_or-insert_above}
-use Rattle.natural_loops.proofs.Trails.{contains_later, contains_cases}
+use Rattle.ssa_check.proofs.Elements.{contains_later, contains_cases}
 
 module _ {X : Type 0} (xs : List X) (n : ℕ) (x : X) where
   -- the elements are those and one more

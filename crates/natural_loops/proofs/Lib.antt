@@ -15,3 +15,6 @@ pub mod ExitMarks
 pub mod Inserted
 pub mod Ordering
 pub mod ExitOrder
+pub mod Labelled
+pub mod PassedMarks
+pub mod Nests

@@ -10,7 +10,7 @@ use Rattle.std.proofs.lemmas.List.Elements.{All-get_or}
 use Rattle.scev_base.specs.declared.ids.BlockId.{BlockId}
 use Rattle.ir_model.specs.declared.function.Function.{Function}
 use Rattle.ssa_check.specs.Checked.{Dominates}
-use Rattle.natural_loops.proofs.Trails.{dominates_along}
+use Rattle.ssa_check.proofs.Dominance.{dominates_along}
 use Rattle.natural_loops.proofs.Inserted.{insert_contains, contains_old, contains_new, AllPairs-insert}
 
 module _ (f : Function) (blocks found : List BlockId) (i at : ℕ) (d : BlockId) (within : i < length blocks)

@@ -3,7 +3,6 @@ use Rattle.std.proofs.Common.{◌≡◌, ◌⊎◌, ℕ, Bool, true, false, List
 use Rattle.std.proofs.Common.{◌==◌, eqb-true, ap, slice_get, IsTrue, refl, sym, ◌∙◌, subst, inl, inr}
 use Rattle.std.proofs.lemmas.Bool.{false≢true, both_ways, eq-eqb}
 use Rattle.std.specs.Option.{option_eq}
-use Rattle.std.proofs.lemmas.Option.{slice_get_within, get_or_from_slice_get}
 use Rattle.std.proofs.lemmas.List.Elements.{All-head, All-tail, All-contains, Contains-push_cases}
 use Rattle.scev_base.specs.declared.ids.BlockId.{BlockId}
 use Rattle.ir_model.specs.declared.function.Function.{Function}
@@ -13,12 +12,8 @@ use Rattle.flow_graph.specs.EdgeLists.{block_id}
 use Rattle.loop_regions.specs.Loops.{Loop, IsRegion, IsLoop}
 use Rattle.natural_loops.specs.Table.{RegionParts, IsRegionOf, loop_of, HasBlocksOf, IsSmallest}
 use Rattle.natural_loops.proofs.Marks.{marked_contains}
-use Rattle.natural_loops.proofs.Trails.{cases_contains}
+use Rattle.ssa_check.proofs.Elements.{cases_contains, contains_at}
 use Rattle.natural_loops.proofs.Nesting.{header_inside}
-
--- an element at a place
-pub contains_at : {X : Type 0} (xs : List X) (k : ℕ) (x : X) → slice_get xs k ≡ Some x → Contains xs x
-contains_at xs k x at = (k, slice_get_within xs k x at, get_or_from_slice_get xs k x x at)
 
 -- what a test says of a header that may be none
 pub same_header : (x : Option BlockId) (h : BlockId) → option_eq (λ a b. a.0 == b.0) x (Some h) ≡ true → x ≡ Some h

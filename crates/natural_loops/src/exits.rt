@@ -26,6 +26,7 @@ pub(crate) fn exits(
     requires passed { (b : ℕ) → IsMarked passed.now b ↔ IsPassedEachTurn c.now.function (loop_of region.now) b }
     ensures { IfOk result (λ exits. AreExits c.now.function (loop_of region.now) exits) }
 {
+    let _ = c.function();
     let marks = exit_marks(alloc, c, region)?;
     let exits = listed(alloc, c, &marks)?;
     if all_marked(exits.as_slice(), passed) {

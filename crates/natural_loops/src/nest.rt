@@ -31,7 +31,7 @@ fn parents(alloc: Global, c: &Checked, regions: &[Region]) -> Result<Items<Optio
         → IsParent regions.now region parent) }
     ensures nest { IfOk result (λ parents. IsNest parents) }
 {
-    let _ = c;
+    let _ = c.function();
     let mut parents = Items::new(alloc);
     for region in regions {
         let around = smallest(regions, region.header, Some(region.header));
