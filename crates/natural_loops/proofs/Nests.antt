@@ -3,7 +3,7 @@ use Rattle.std.proofs.Common.{◌≡◌, ◌≢◌, ◌==◌, ◌⊎◌, ℕ, ze
 use Rattle.std.proofs.Common.{get_or, slice_get, count_by, Option, Some, None, All, Contains, sym, ap, ◌∙◌, subst, inl, inr}
 use Rattle.std.proofs.Common.{refl, arith}
 use Rattle.std.specs.List.{range_with_len}
-use Rattle.std.specs.Option.{option_map}
+use Rattle.std.specs.Option.{option_map, MatchOption, IsSomeAnd}
 use Rattle.std.proofs.lemmas.Bool.{cases_Bool, cases_eq, both_ways, not_from_true, not_from_false, not-true}
 use Rattle.std.proofs.lemmas.Option.{same_Some, none-some, slice_get_within, slice_get-get_or}
 use Rattle.std.proofs.lemmas.List.{get_or_push, get_or_append_left}
@@ -27,6 +27,18 @@ use Rattle.natural_loops.proofs.Labelled.{reachable_labelled}
 use Rattle.natural_loops.proofs.SmallestLoop.{IsSmallest_same}
 use Rattle.natural_loops.proofs.PassedMarks.{region_at}
 use Rattle.std.proofs.lemmas.List.Elements.{All-contains}
+
+-- ---- what a function makes of a value that may be none
+
+pub mapped : {X Y : Type 0} (g : X → Y) (Post : X → Y → Type 0) → ((x : X) (y : Y) → Post x y → y ≡ g x)
+    → (o : Option X) (r : Option Y) → MatchOption o (r ≡ None) (λ x. IsSomeAnd r (Post x)) → r ≡ option_map g o
+mapped g Post says None r is = is
+mapped g Post says (Some x) None is = absurd is
+mapped g Post says (Some x) (Some y) is = ap Some (says x y is)
+
+pub option_map_same : (o : Option ℕ) → option_map (λ (k : ℕ). k) o ≡ o
+option_map_same None = refl
+option_map_same (Some x) = refl
 
 -- ---- one more at the end of a list
 
