@@ -42,7 +42,7 @@ module _ {X : Type 0} (xs : List X) (n : ℕ) (x : X) where
     Here : ℕ → Type 0
     Here k = ((k < n) × (get_or (insert xs n x) k d ≡ get_or xs k d))
         ⊎ (((k ≡ n) × (get_or (insert xs n x) k d ≡ x))
-            ⊎ ((p : ℕ) × (k ≡ p + 1) × (n ≤ p) × (get_or (insert xs n x) k d ≡ get_or xs p d)))
+        ⊎ ((p : ℕ) × (k ≡ p + 1) × (n ≤ p) × (get_or (insert xs n x) k d ≡ get_or xs p d)))
 
     here_at : (k : ℕ) → Here k
     unfolding Here
@@ -57,8 +57,13 @@ module _ {X : Type 0} (xs : List X) (n : ℕ) (x : X) where
                     let p : ℕ = k - 1 in
                     let next : k ≡ p + 1 = omega (arith, high, apart) in
                     let behind : n ≤ p = omega (arith, high, apart) in
-                    inr (inr (p, next, behind, ap (λ (j : ℕ). get_or (insert xs n x) j d) next
-                    ∙ get_or-insert_above xs n x d p behind within))
+                    inr (inr (
+                      p,
+                      next,
+                      behind,
+                      ap (λ (j : ℕ). get_or (insert xs n x) j d) next
+                          ∙ get_or-insert_above xs n x d p behind within,
+                    ))
               ]
         ]
 
@@ -66,31 +71,31 @@ module _ {X : Type 0} (xs : List X) (n : ℕ) (x : X) where
         (before : (k : ℕ) → k < n → R (get_or xs k d) x)
         (behind : (k : ℕ) → n ≤ k → k < length xs → R x (get_or xs k d))
       where
-      moved : (a b u v : X) → a ≡ u → b ≡ v → R u v → R a b
-      moved a b u v e g r = subst (λ (p : X). R p b) (sym e) (subst (λ (q : X). R u q) (sym g) r)
+        moved : (a b u v : X) → a ≡ u → b ≡ v → R u v → R a b
+        moved a b u v e g r = subst (λ (p : X). R p b) (sym e) (subst (λ (q : X). R u q) (sym g) r)
 
-      two : (i j : ℕ) → i < j → j < length xs + 1 → Here i → Here j
-          → R (get_or (insert xs n x) i d) (get_or (insert xs n x) j d)
-      unfolding Here
-      two i j less top (inl a) (inl b) =
-          moved _ _ _ _ a.1 b.1 (sorted i j d less (omega (arith, b.0, within)))
-      two i j less top (inl a) (inr (inl b)) = moved _ _ _ _ a.1 b.1 (before i a.0)
-      two i j less top (inl a) (inr (inr b)) =
-          moved _ _ _ _ a.1 b.3 (sorted i b.0 d (omega (arith, a.0, b.2)) (omega (arith, b.1, top)))
-      two i j less top (inr (inl a)) (inl b) = absurd (omega (arith, less, a.0, b.0))
-      two i j less top (inr (inl a)) (inr (inl b)) = absurd (omega (arith, less, a.0, b.0))
-      two i j less top (inr (inl a)) (inr (inr b)) =
-          moved _ _ _ _ a.1 b.3 (behind b.0 b.2 (omega (arith, b.1, top)))
-      two i j less top (inr (inr a)) (inl b) = absurd (omega (arith, less, a.1, a.2, b.0))
-      two i j less top (inr (inr a)) (inr (inl b)) = absurd (omega (arith, less, a.1, a.2, b.0))
-      two i j less top (inr (inr a)) (inr (inr b)) =
-          moved _ _ _ _ a.3 b.3
-          (sorted a.0 b.0 d (omega (arith, less, a.1, b.1)) (omega (arith, b.1, top)))
+        two : (i j : ℕ) → i < j → j < length xs + 1 → Here i → Here j
+            → R (get_or (insert xs n x) i d) (get_or (insert xs n x) j d)
+        unfolding Here
+        two i j less top (inl a) (inl b) =
+            moved _ _ _ _ a.1 b.1 (sorted i j d less (omega (arith, b.0, within)))
+        two i j less top (inl a) (inr (inl b)) = moved _ _ _ _ a.1 b.1 (before i a.0)
+        two i j less top (inl a) (inr (inr b)) =
+            moved _ _ _ _ a.1 b.3 (sorted i b.0 d (omega (arith, a.0, b.2)) (omega (arith, b.1, top)))
+        two i j less top (inr (inl a)) (inl b) = absurd (omega (arith, less, a.0, b.0))
+        two i j less top (inr (inl a)) (inr (inl b)) = absurd (omega (arith, less, a.0, b.0))
+        two i j less top (inr (inl a)) (inr (inr b)) =
+            moved _ _ _ _ a.1 b.3 (behind b.0 b.2 (omega (arith, b.1, top)))
+        two i j less top (inr (inr a)) (inl b) = absurd (omega (arith, less, a.1, a.2, b.0))
+        two i j less top (inr (inr a)) (inr (inl b)) = absurd (omega (arith, less, a.1, a.2, b.0))
+        two i j less top (inr (inr a)) (inr (inr b)) =
+            moved _ _ _ _ a.3 b.3
+            (sorted a.0 b.0 d (omega (arith, less, a.1, b.1)) (omega (arith, b.1, top)))
 
-      pub pair_inserted : (i j : ℕ) → i < j → j < length (insert xs n x)
-          → R (get_or (insert xs n x) i d) (get_or (insert xs n x) j d)
-      pair_inserted i j less top =
-          two i j less (omega (arith, top, length-insert xs n x within)) (here_at i) (here_at j)
+        pub pair_inserted : (i j : ℕ) → i < j → j < length (insert xs n x)
+            → R (get_or (insert xs n x) i d) (get_or (insert xs n x) j d)
+        pair_inserted i j less top =
+            two i j less (omega (arith, top, length-insert xs n x within)) (here_at i) (here_at j)
 
 -- in order, where the new one fits what stands before it, and what stands behind it
 pub AllPairs-insert : {X : Type 0} (R : X → X → Type 0) (xs : List X) (n : ℕ) (x : X) → n ≤ length xs → AllPairs R xs

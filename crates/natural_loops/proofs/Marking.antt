@@ -23,34 +23,34 @@ module _ (P : ℕ → Type 0) (count : ℕ) where
   module _ (Seen Later : ℕ → Type 0) (marks : List Bool) (at : ℕ)
       (cases : (b : ℕ) → Later b → Seen b ⊎ (b ≡ at)) (before : AreMarks Seen marks)
     where
-    -- one more was seen, of which P doesn't hold
-    pub AreMarks_skip : (P at → ⊥) → AreMarks Later marks
-    AreMarks_skip none = record {
-      size = before.size;
-      only = before.only;
-      done = λ b later holds.
-          elim (cases b later) [
-            | inl seen ↦ before.done b seen holds
-            | inr is ↦ absurd (none (subst P is holds))
-          ];
-    }
+      -- one more was seen, of which P doesn't hold
+      pub AreMarks_skip : (P at → ⊥) → AreMarks Later marks
+      AreMarks_skip none = record {
+        size = before.size;
+        only = before.only;
+        done = λ b later holds.
+            elim (cases b later) [
+              | inl seen ↦ before.done b seen holds
+              | inr is ↦ absurd (none (subst P is holds))
+            ];
+      }
 
-    -- one more was seen and marked
-    pub AreMarks_more : at < count → P at → AreMarks Later (set marks at true)
-    AreMarks_more within holds = record {
-      size = length-set marks at true ∙ before.size;
-      only = λ b marked.
-          elim (set_cases marks at b marked) [
-            | inl old ↦ before.only b old
-            | inr is ↦ subst P is holds
-          ];
-      done = λ b later also.
-          elim (cases b later) [
-            | inl seen ↦ set_keeps marks at b (before.done b seen also)
-            | inr is ↦ subst (IsMarked (set marks at true)) (sym is)
-                (set_marked marks at (omega (arith, within, before.size)))
-          ];
-    }
+      -- one more was seen and marked
+      pub AreMarks_more : at < count → P at → AreMarks Later (set marks at true)
+      AreMarks_more within holds = record {
+        size = length-set marks at true ∙ before.size;
+        only = λ b marked.
+            elim (set_cases marks at b marked) [
+              | inl old ↦ before.only b old
+              | inr is ↦ subst P is holds
+            ];
+        done = λ b later also.
+            elim (cases b later) [
+              | inl seen ↦ set_keeps marks at b (before.done b seen also)
+              | inr is ↦ subst (IsMarked (set marks at true)) (sym is)
+                  (set_marked marks at (omega (arith, within, before.size)))
+            ];
+      }
 
   -- all were seen
   pub AreMarks_all : (Seen : ℕ → Type 0) (marks : List Bool) → ((b : ℕ) → P b → Seen b) → AreMarks Seen marks

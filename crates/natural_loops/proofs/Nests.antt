@@ -84,7 +84,7 @@ module _ (f : Function) (regions : List RegionParts) (are : AreAllLoops f region
       → StandsIn (loop_of inner) (loop_of outer)
   stands_from inner outer first second has = (
     header_inside f (loop_of inner) (loop_of outer) first.is_loop second.is_loop
-    ((marked_contains outer.blocks inner.header.0).1 has.0),
+        ((marked_contains outer.blocks inner.header.0).1 has.0),
     (λ same.
         let id : ℕ → BlockId = λ k. record { 0 = k } in
         has.1 (ap (λ (k : ℕ). Some (id k)) same)),
@@ -102,7 +102,7 @@ module _ (f : Function) (regions : List RegionParts) (are : AreAllLoops f region
   parent_of inner own found least =
       IsSmallest_same regions (HasHeaderOf inner) (λ outer. StandsIn (loop_of inner) (loop_of outer)) found
       (λ outer among has.
-          stands_from inner outer own (All-contains (IsRegionOf f) regions outer are.each among) has)
+      stands_from inner outer own (All-contains (IsRegionOf f) regions outer are.each among) has)
       (λ outer among stands. stands_back inner outer own stands) least
 
   -- ---- the innermost loop of a block
@@ -139,77 +139,77 @@ module _ (f : Function) (regions : List RegionParts) (are : AreAllLoops f region
     module _ (never : (a : ℕ) → Edge f a (entry f.blocks) → ⊥) (parents : List (Option ℕ))
         (size : length parents ≡ length regions)
         (exact : (k : ℕ) (region : RegionParts) (parent : Option ℕ) → slice_get regions k ≡ Some region
-            → slice_get parents k ≡ Some parent → IsParent regions region parent)
+        → slice_get parents k ≡ Some parent → IsParent regions region parent)
       where
-      numbers : List ℕ
-      numbers = range_with_len 0 (length f.labels)
+        numbers : List ℕ
+        numbers = range_with_len 0 (length f.labels)
 
-      -- how many numbers of blocks are in it
-      left_out : Option RegionParts → ℕ
-      left_out (Some region) = count_by (λ k. not (get_or region.blocks k false)) numbers
-      left_out None = 0
+        -- how many numbers of blocks are in it
+        left_out : Option RegionParts → ℕ
+        left_out (Some region) = count_by (λ k. not (get_or region.blocks k false)) numbers
+        left_out None = 0
 
-      numbers_have : (k : ℕ) → k < length f.labels → Contains numbers k
-      unfolding numbers
-      numbers_have k less =
-          let at = get_or-range_with_len 0 (length f.labels) k k less in
-          (k, omega (arith, less, length-range_with_len 0 (length f.labels)), omega (arith, at))
+        numbers_have : (k : ℕ) → k < length f.labels → Contains numbers k
+        unfolding numbers
+        numbers_have k less =
+            let at = get_or-range_with_len 0 (length f.labels) k k less in
+            (k, omega (arith, less, length-range_with_len 0 (length f.labels)), omega (arith, at))
 
-      -- one that stands in another one leaves out more
-      more_left_out : (inner outer : RegionParts) → IsRegionOf f inner → IsRegionOf f outer
-          → StandsIn (loop_of inner) (loop_of outer) → left_out (Some outer) < left_out (Some inner)
-      unfolding left_out
-      more_left_out inner outer first second stands =
-          let p : ℕ → Bool = λ k. not (get_or outer.blocks k false) in
-          let q : ℕ → Bool = λ k. not (get_or inner.blocks k false) in
-          let h : ℕ = outer.header.0 in
-          let header : IsMarked outer.blocks h = (marked_contains outer.blocks h).0 second.is_loop.region.header in
-          let out : get_or inner.blocks h false ≡ false =
-          elim (cases_Bool (get_or inner.blocks h false)) [
-            | inl marked ↦
-                absurd
-                (stands.1
-                (one_header f never (loop_of inner) (loop_of outer) first.is_loop second.is_loop
-                ((marked_contains inner.blocks h).1 marked)
-                (stands.0 inner.header.0 first.is_loop.region.header)))
-            | inr free ↦ free
-          ] in
-          let weaker : (x : ℕ) → p x ≡ true → q x ≡ true = λ x is.
-          elim (cases_Bool (get_or inner.blocks x false)) [
-            | inl marked ↦
-                absurd
-                (both_ways (get_or outer.blocks x false) (not-true (get_or outer.blocks x false) is)
-                ((marked_contains outer.blocks x).0 (stands.0 x ((marked_contains inner.blocks x).1 marked))))
-            | inr free ↦ not_from_false (get_or inner.blocks x false) free
-          ] in
-          one_fewer p q numbers (λ k d within. weaker (get_or numbers k d)) h
-          (numbers_have h (marked_labelled outer second h header)) (not_from_true (get_or outer.blocks h false) header)
-          (not_from_false (get_or inner.blocks h false) out)
+        -- one that stands in another one leaves out more
+        more_left_out : (inner outer : RegionParts) → IsRegionOf f inner → IsRegionOf f outer
+            → StandsIn (loop_of inner) (loop_of outer) → left_out (Some outer) < left_out (Some inner)
+        unfolding left_out
+        more_left_out inner outer first second stands =
+            let p : ℕ → Bool = λ k. not (get_or outer.blocks k false) in
+            let q : ℕ → Bool = λ k. not (get_or inner.blocks k false) in
+            let h : ℕ = outer.header.0 in
+            let header : IsMarked outer.blocks h = (marked_contains outer.blocks h).0 second.is_loop.region.header in
+            let out : get_or inner.blocks h false ≡ false =
+            elim (cases_Bool (get_or inner.blocks h false)) [
+              | inl marked ↦
+                  absurd
+                  (stands.1
+                  (one_header f never (loop_of inner) (loop_of outer) first.is_loop second.is_loop
+                  ((marked_contains inner.blocks h).1 marked)
+                  (stands.0 inner.header.0 first.is_loop.region.header)))
+              | inr free ↦ free
+            ] in
+            let weaker : (x : ℕ) → p x ≡ true → q x ≡ true = λ x is.
+            elim (cases_Bool (get_or inner.blocks x false)) [
+              | inl marked ↦
+                  absurd
+                  (both_ways (get_or outer.blocks x false) (not-true (get_or outer.blocks x false) is)
+                  ((marked_contains outer.blocks x).0 (stands.0 x ((marked_contains inner.blocks x).1 marked))))
+              | inr free ↦ not_from_false (get_or inner.blocks x false) free
+            ] in
+            one_fewer p q numbers (λ k d within. weaker (get_or numbers k d)) h
+            (numbers_have h (marked_labelled outer second h header)) (not_from_true (get_or outer.blocks h false) header)
+            (not_from_false (get_or inner.blocks h false) out)
 
-      rank : ℕ → ℕ
-      rank l = left_out (slice_get regions l)
+        rank : ℕ → ℕ
+        rank l = left_out (slice_get regions l)
 
-      parent_is : (l parent : ℕ) → slice_get parents l ≡ Some (Some parent)
-          → (inner : RegionParts) × (slice_get regions l ≡ Some inner) × IsParent regions inner (Some parent)
-      parent_is l parent step =
-          let none : RegionParts = record { header = record { 0 = 0 }; latches = []; blocks = [] } in
-          let within = slice_get_within parents l (Some parent) step in
-          let at = slice_get-get_or regions l none (omega (arith, within, size)) in
-          (get_or regions l none, at, exact l (get_or regions l none) (Some parent) at step)
+        parent_is : (l parent : ℕ) → slice_get parents l ≡ Some (Some parent)
+            → (inner : RegionParts) × (slice_get regions l ≡ Some inner) × IsParent regions inner (Some parent)
+        parent_is l parent step =
+            let none : RegionParts = record { header = record { 0 = 0 }; latches = []; blocks = [] } in
+            let within = slice_get_within parents l (Some parent) step in
+            let at = slice_get-get_or regions l none (omega (arith, within, size)) in
+            (get_or regions l none, at, exact l (get_or regions l none) (Some parent) at step)
 
-      falls : (l parent : ℕ) → slice_get parents l ≡ Some (Some parent) → rank parent < rank l
-      unfolding rank
-      falls l parent step =
-          let is = parent_is l parent step in
-          let less = more_left_out is.0 is.2.0 (region_at f regions are l is.0 is.1)
-          (region_at f regions are parent is.2.0 is.2.1) is.2.2 in
-          omega (arith, less, ap left_out is.1, ap left_out is.2.1)
+        falls : (l parent : ℕ) → slice_get parents l ≡ Some (Some parent) → rank parent < rank l
+        unfolding rank
+        falls l parent step =
+            let is = parent_is l parent step in
+            let less = more_left_out is.0 is.2.0 (region_at f regions are l is.0 is.1)
+            (region_at f regions are parent is.2.0 is.2.1) is.2.2 in
+            omega (arith, less, ap left_out is.1, ap left_out is.2.1)
 
-      within_list : (l parent : ℕ) → slice_get parents l ≡ Some (Some parent) → parent < length parents
-      within_list l parent step =
-          let is = parent_is l parent step in
-          let within = slice_get_within regions parent is.2.0 is.2.1 in
-          omega (arith, within, size)
+        within_list : (l parent : ℕ) → slice_get parents l ≡ Some (Some parent) → parent < length parents
+        within_list l parent step =
+            let is = parent_is l parent step in
+            let within = slice_get_within regions parent is.2.0 is.2.1 in
+            omega (arith, within, size)
 
-      pub parents_nest : IsNest parents
-      parents_nest = falling_nest parents rank within_list falls
+        pub parents_nest : IsNest parents
+        parents_nest = falling_nest parents rank within_list falls

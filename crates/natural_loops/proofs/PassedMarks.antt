@@ -66,67 +66,67 @@ module _ (f : Function) (regions : List RegionParts) (are : AreAllLoops f region
   module _ (never : (a : ℕ) → Edge f a (entry f.blocks) → ⊥) (region : RegionParts) (l : LoopId)
       (at : slice_get regions l.0 ≡ Some region)
     where
-    abbrev loop : Loop
-    loop = loop_of region
+      abbrev loop : Loop
+      loop = loop_of region
 
-    own : IsRegionOf f region
-    own = region_at l.0 region at
+      own : IsRegionOf f region
+      own = region_at l.0 region at
 
-    -- an inner loop hasn't a block whose innermost loop this one is
-    alone : (b : ℕ) → IsInnermost regions b (Some l) → (inner : Loop) → IsLoop f inner → StandsIn inner loop
-        → Contains inner.blocks b → ⊥
-    alone b innermost inner is_inner stands held =
-        let found = are.all inner is_inner in
-        let other : RegionParts = found.0 in
-        let is_other = All-contains (IsRegionOf f) regions other are.each found.1 in
-        let there = same_loop f inner (loop_of other) is_inner is_other.is_loop (sym found.2) b held in
-        let same : innermost.0 ≡ region = same_Some innermost.0 region (sym innermost.1 ∙ at) in
-        let around : HasBlocksOf other region = subst (λ (r : RegionParts). HasBlocksOf other r) same
-        (innermost.3 other found.1 ((marked_contains other.blocks b).0 there)) in
-        let header : IsMarked region.blocks region.header.0 =
-        (marked_contains region.blocks region.header.0).0 own.is_loop.region.header in
-        let also = (marked_contains other.blocks region.header.0).1 (around region.header.0 header) in
-        let back = same_loop f (loop_of other) inner is_other.is_loop is_inner found.2 region.header.0 also in
-        stands.1
-        (one_header f never inner loop is_inner own.is_loop back (stands.0 inner.header is_inner.region.header))
+      -- an inner loop hasn't a block whose innermost loop this one is
+      alone : (b : ℕ) → IsInnermost regions b (Some l) → (inner : Loop) → IsLoop f inner → StandsIn inner loop
+          → Contains inner.blocks b → ⊥
+      alone b innermost inner is_inner stands held =
+          let found = are.all inner is_inner in
+          let other : RegionParts = found.0 in
+          let is_other = All-contains (IsRegionOf f) regions other are.each found.1 in
+          let there = same_loop f inner (loop_of other) is_inner is_other.is_loop (sym found.2) b held in
+          let same : innermost.0 ≡ region = same_Some innermost.0 region (sym innermost.1 ∙ at) in
+          let around : HasBlocksOf other region = subst (λ (r : RegionParts). HasBlocksOf other r) same
+          (innermost.3 other found.1 ((marked_contains other.blocks b).0 there)) in
+          let header : IsMarked region.blocks region.header.0 =
+          (marked_contains region.blocks region.header.0).0 own.is_loop.region.header in
+          let also = (marked_contains other.blocks region.header.0).1 (around region.header.0 header) in
+          let back = same_loop f (loop_of other) inner is_other.is_loop is_inner found.2 region.header.0 also in
+          stands.1
+          (one_header f never inner loop is_inner own.is_loop back (stands.0 inner.header is_inner.region.header))
 
-    pub passed_from : (b : ℕ) → IsInnermost regions b (Some l) → All (λ x. Dominates f b x.0) region.latches
-        → IsPassedEachTurn f loop b
-    passed_from b innermost all =
-        let same : innermost.0 ≡ region = same_Some innermost.0 region (sym innermost.1 ∙ at) in
-        let marked = subst (λ (r : RegionParts). IsMarked r.blocks b) same innermost.2 in
-        let held = (marked_contains region.blocks b).1 marked in
-        record {
-          held = held;
-          passed = (turn_passes f never loop own.is_loop b held).1
-              (λ x latch.
-                  let id : BlockId = record { 0 = x } in
-                  All-contains (λ (x : BlockId). Dominates f b x.0) region.latches id all
-                  ((own.latches.each id).1 latch));
-          alone = alone b innermost;
-        }
+      pub passed_from : (b : ℕ) → IsInnermost regions b (Some l) → All (λ x. Dominates f b x.0) region.latches
+          → IsPassedEachTurn f loop b
+      passed_from b innermost all =
+          let same : innermost.0 ≡ region = same_Some innermost.0 region (sym innermost.1 ∙ at) in
+          let marked = subst (λ (r : RegionParts). IsMarked r.blocks b) same innermost.2 in
+          let held = (marked_contains region.blocks b).1 marked in
+          record {
+            held = held;
+            passed = (turn_passes f never loop own.is_loop b held).1
+                (λ x latch.
+                let id : BlockId = record { 0 = x } in
+                All-contains (λ (x : BlockId). Dominates f b x.0) region.latches id all
+                ((own.latches.each id).1 latch));
+            alone = alone b innermost;
+          }
 
-    pub passed_dominates : (b : ℕ) → IsPassedEachTurn f loop b → All (λ x. Dominates f b x.0) region.latches
-    passed_dominates b passed k d within =
-        (turn_passes f never loop own.is_loop b passed.held).0 passed.passed (get_or region.latches k d).0
-        ((own.latches.each (get_or region.latches k d)).0 (Contains-get_or region.latches k d within))
+      pub passed_dominates : (b : ℕ) → IsPassedEachTurn f loop b → All (λ x. Dominates f b x.0) region.latches
+      passed_dominates b passed k d within =
+          (turn_passes f never loop own.is_loop b passed.held).0 passed.passed (get_or region.latches k d).0
+          ((own.latches.each (get_or region.latches k d)).0 (Contains-get_or region.latches k d within))
 
-    pub passed_innermost : (b : ℕ) → IsPassedEachTurn f loop b → (found : Option LoopId) → IsInnermost regions b found
-        → found ≡ Some l
-    passed_innermost b passed None none =
-        absurd (none region (contains_at regions l.0 region at) ((marked_contains region.blocks b).0 passed.held))
-    passed_innermost b passed (Some m) least =
-        let inner : RegionParts = least.0 in
-        let is_inner = region_at m.0 inner least.1 in
-        let within : HasBlocksOf region inner = least.3 region (contains_at regions l.0 region at)
-        ((marked_contains region.blocks b).0 passed.held) in
-        elim (cases_eq inner.header.0 region.header.0) [
-          | inl same ↦
-              let id : ℕ → LoopId = λ k. record { 0 = k } in
-              ap (λ (k : ℕ). Some (id k)) (one_place m.0 l.0 inner region least.1 at same)
-          | inr apart ↦
-              let inside = λ (x : ℕ) (there : Contains (loop_of inner).blocks x).
-              (marked_contains region.blocks x).1 (within x ((marked_contains inner.blocks x).0 there)) in
-              absurd
-              (passed.alone (loop_of inner) is_inner.is_loop (inside, apart) ((marked_contains inner.blocks b).1 least.2))
-        ]
+      pub passed_innermost : (b : ℕ) → IsPassedEachTurn f loop b → (found : Option LoopId) → IsInnermost regions b found
+          → found ≡ Some l
+      passed_innermost b passed None none =
+          absurd (none region (contains_at regions l.0 region at) ((marked_contains region.blocks b).0 passed.held))
+      passed_innermost b passed (Some m) least =
+          let inner : RegionParts = least.0 in
+          let is_inner = region_at m.0 inner least.1 in
+          let within : HasBlocksOf region inner = least.3 region (contains_at regions l.0 region at)
+          ((marked_contains region.blocks b).0 passed.held) in
+          elim (cases_eq inner.header.0 region.header.0) [
+            | inl same ↦
+                let id : ℕ → LoopId = λ k. record { 0 = k } in
+                ap (λ (k : ℕ). Some (id k)) (one_place m.0 l.0 inner region least.1 at same)
+            | inr apart ↦
+                let inside = λ (x : ℕ) (there : Contains (loop_of inner).blocks x).
+                (marked_contains region.blocks x).1 (within x ((marked_contains inner.blocks x).0 there)) in
+                absurd
+                (passed.alone (loop_of inner) is_inner.is_loop (inside, apart) ((marked_contains inner.blocks b).1 least.2))
+          ]

@@ -89,86 +89,86 @@ module _ (f : Function) (regions : List RegionParts) (each : All (IsRegionOf f) 
     (b : ℕ) (holds : (region : RegionParts) → P region → IsMarked region.blocks b) (seen : List RegionParts)
     (region : RegionParts)
   where
-  -- one more loop, of which P doesn't hold
-  pub IsSmallestAmong_skip : (P region → ⊥) → (found : Option ℕ) → IsSmallestAmong regions seen P found
-      → IsSmallestAmong regions (seen ++ region ∷ []) P found
-  IsSmallestAmong_skip none (Some k) least = (
-    least.0,
-    least.1,
-    least.2,
-    (λ other there also.
-        elim (Contains-push_cases seen region other there) [
-          | inl before ↦ least.3 other before also
-          | inr is ↦ absurd (none (subst P (sym is) also))
-        ]),
-  )
-  IsSmallestAmong_skip none None nothing =
-      λ other there also.
-      elim (Contains-push_cases seen region other there) [
-        | inl before ↦ nothing other before also
-        | inr is ↦ none (subst P (sym is) also)
-      ]
-
-  abbrev itself : (other : RegionParts) → region ≡ other → HasBlocksOf other region
-  itself other is = subst (λ (one : RegionParts). HasBlocksOf one region) is (λ k marked. marked)
-
-  module _ (n : ℕ) (at : slice_get regions n ≡ Some region) (also : P region) where
-    own : IsRegionOf f region
-    own = All-contains (IsRegionOf f) regions region each (contains_at regions n region at)
-
-    -- one more, whose header the smallest one has
-    pub IsSmallestAmong_more : (inside : Bool) (found : Option ℕ)
-        → ((k : ℕ) (least : RegionParts) → found ≡ Some k → slice_get regions k ≡ Some least
-            → inside ≡ get_or least.blocks region.header.0 false)
-        → inside ≡ true → IsSmallestAmong regions seen P found
-        → IsSmallestAmong regions (seen ++ region ∷ []) P (Some n)
-    IsSmallestAmong_more inside None says is_in nothing = (
-      region,
-      at,
-      also,
-      (λ other there too.
+    -- one more loop, of which P doesn't hold
+    pub IsSmallestAmong_skip : (P region → ⊥) → (found : Option ℕ) → IsSmallestAmong regions seen P found
+        → IsSmallestAmong regions (seen ++ region ∷ []) P found
+    IsSmallestAmong_skip none (Some k) least = (
+      least.0,
+      least.1,
+      least.2,
+      (λ other there also.
           elim (Contains-push_cases seen region other there) [
-            | inl before ↦ absurd (nothing other before too)
-            | inr is ↦ itself other is
+            | inl before ↦ least.3 other before also
+            | inr is ↦ absurd (none (subst P (sym is) also))
           ]),
     )
-    IsSmallestAmong_more inside (Some k) says is_in least =
-        let old = All-contains (IsRegionOf f) regions least.0 each (contains_at regions k least.0 least.1) in
-        let within : HasBlocksOf least.0 region = header_marked f region least.0 own old
-        (sym (says k least.0 refl least.1) ∙ is_in) in (
-          region,
-          at,
-          also,
-          (λ other there too.
-              elim (Contains-push_cases seen region other there) [
-                | inl before ↦ λ block marked. least.3 other before too block (within block marked)
-                | inr is ↦ itself other is
-              ]),
-        )
+    IsSmallestAmong_skip none None nothing =
+        λ other there also.
+        elim (Contains-push_cases seen region other there) [
+          | inl before ↦ nothing other before also
+          | inr is ↦ none (subst P (sym is) also)
+        ]
 
-    -- one more, whose header the smallest one hasn't
-    pub IsSmallestAmong_kept : (inside : Bool) (found : Option ℕ) → (found ≡ None → IsTrue inside)
-        → ((k : ℕ) (least : RegionParts) → found ≡ Some k → slice_get regions k ≡ Some least
-            → inside ≡ get_or least.blocks region.header.0 false)
-        → inside ≡ false → IsSmallestAmong regions seen P found
-        → IsSmallestAmong regions (seen ++ region ∷ []) P found
-    IsSmallestAmong_kept inside None empty says is_out nothing = absurd (both_ways inside is_out (empty refl))
-    IsSmallestAmong_kept inside (Some k) empty says is_out least =
-        let old = All-contains (IsRegionOf f) regions least.0 each (contains_at regions k least.0 least.1) in
-        let around : HasBlocksOf region least.0 =
-        elim (marks_meet f least.0 region old own b (holds least.0 least.2) (holds region also)) [
-          | inl there ↦ absurd (both_ways inside is_out (says k least.0 refl least.1 ∙ there))
-          | inr there ↦ header_marked f least.0 region old own there
-        ] in (
-          least.0,
-          least.1,
-          least.2,
-          (λ other there too.
-              elim (Contains-push_cases seen region other there) [
-                | inl before ↦ least.3 other before too
-                | inr is ↦ subst (λ (one : RegionParts). HasBlocksOf one least.0) is around
-              ]),
-        )
+    abbrev itself : (other : RegionParts) → region ≡ other → HasBlocksOf other region
+    itself other is = subst (λ (one : RegionParts). HasBlocksOf one region) is (λ k marked. marked)
+
+    module _ (n : ℕ) (at : slice_get regions n ≡ Some region) (also : P region) where
+      own : IsRegionOf f region
+      own = All-contains (IsRegionOf f) regions region each (contains_at regions n region at)
+
+      -- one more, whose header the smallest one has
+      pub IsSmallestAmong_more : (inside : Bool) (found : Option ℕ)
+          → ((k : ℕ) (least : RegionParts) → found ≡ Some k → slice_get regions k ≡ Some least
+          → inside ≡ get_or least.blocks region.header.0 false)
+          → inside ≡ true → IsSmallestAmong regions seen P found
+          → IsSmallestAmong regions (seen ++ region ∷ []) P (Some n)
+      IsSmallestAmong_more inside None says is_in nothing = (
+        region,
+        at,
+        also,
+        (λ other there too.
+            elim (Contains-push_cases seen region other there) [
+              | inl before ↦ absurd (nothing other before too)
+              | inr is ↦ itself other is
+            ]),
+      )
+      IsSmallestAmong_more inside (Some k) says is_in least =
+          let old = All-contains (IsRegionOf f) regions least.0 each (contains_at regions k least.0 least.1) in
+          let within : HasBlocksOf least.0 region = header_marked f region least.0 own old
+          (sym (says k least.0 refl least.1) ∙ is_in) in (
+            region,
+            at,
+            also,
+            (λ other there too.
+                elim (Contains-push_cases seen region other there) [
+                  | inl before ↦ λ block marked. least.3 other before too block (within block marked)
+                  | inr is ↦ itself other is
+                ]),
+          )
+
+      -- one more, whose header the smallest one hasn't
+      pub IsSmallestAmong_kept : (inside : Bool) (found : Option ℕ) → (found ≡ None → IsTrue inside)
+          → ((k : ℕ) (least : RegionParts) → found ≡ Some k → slice_get regions k ≡ Some least
+          → inside ≡ get_or least.blocks region.header.0 false)
+          → inside ≡ false → IsSmallestAmong regions seen P found
+          → IsSmallestAmong regions (seen ++ region ∷ []) P found
+      IsSmallestAmong_kept inside None empty says is_out nothing = absurd (both_ways inside is_out (empty refl))
+      IsSmallestAmong_kept inside (Some k) empty says is_out least =
+          let old = All-contains (IsRegionOf f) regions least.0 each (contains_at regions k least.0 least.1) in
+          let around : HasBlocksOf region least.0 =
+          elim (marks_meet f least.0 region old own b (holds least.0 least.2) (holds region also)) [
+            | inl there ↦ absurd (both_ways inside is_out (says k least.0 refl least.1 ∙ there))
+            | inr there ↦ header_marked f least.0 region old own there
+          ] in (
+            least.0,
+            least.1,
+            least.2,
+            (λ other there too.
+                elim (Contains-push_cases seen region other there) [
+                  | inl before ↦ least.3 other before too
+                  | inr is ↦ subst (λ (one : RegionParts). HasBlocksOf one least.0) is around
+                ]),
+          )
 
 -- ---- for the same loops
 

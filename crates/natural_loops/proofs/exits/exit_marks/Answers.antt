@@ -37,15 +37,15 @@ loop-b-preserved c =
           rw w.marks-is
           (AreMarks_skip P count Seen Later marks n (below_cases n) inv
           (λ exit.
-              elim w.else-holds.branch [
-                | else-holds-via-then-holds+else-leaves v ↦
-                    both_ways v.leaves.result v.if-leaves.false
-                    (v.leaves.ensures.1
-                    (exit_leaves f region n v.succs.result.now (v.succs.ensures f v.flow.ensures) exit))
-                | else-holds-via-else-holds v ↦
-                    both_ways c.holds.result v.if-holds.false
-                    (c.holds.ensures ∙ exit_marked f region n _ refl exit)
-              ]))
+          elim w.else-holds.branch [
+            | else-holds-via-then-holds+else-leaves v ↦
+                both_ways v.leaves.result v.if-leaves.false
+                (v.leaves.ensures.1
+                (exit_leaves f region n v.succs.result.now (v.succs.ensures f v.flow.ensures) exit))
+            | else-holds-via-else-holds v ↦
+                both_ways c.holds.result v.if-holds.false
+                (c.holds.ensures ∙ exit_marked f region n _ refl exit)
+          ]))
     ]
 
 pub returns : goal.returns

@@ -101,8 +101,8 @@ returns-then-all_marked c =
     (λ found. AllPairs (λ a b. a.0 ≢ b.0) found) (λ found. AllPairs (λ a b. Dominates f a.0 b.0) found)
     (λ found. AreExits f l found) c.in_order.ensures.same c.in_order.ensures.apart c.in_order.ensures.ordered
     (λ found same apart ordered.
-        exits_passed f never l c.requires.loop_.is_loop exits are all found
-        (λ b. subst (λ (xs : List BlockId). Contains found b ↔ Contains xs b) slice (same b)) apart ordered)
+    exits_passed f never l c.requires.loop_.is_loop exits are all found
+    (λ b. subst (λ (xs : List BlockId). Contains found b ↔ Contains xs b) slice (same b)) apart ordered)
 
 pub returns : goal.returns
 returns c =
@@ -116,6 +116,6 @@ returns c =
     c.in_ok-exits.ensures in
     exits_other f never l c.requires.loop_.is_loop exits are
     (λ all.
-        both_ways c.all_marked.result c.if-all_marked.false
-        (c.all_marked.ensures.1
-        (passed_marked f l c.args.passed.now exits c.as_slice.result.now c.as_slice.ensures c.requires.passed all)))
+    both_ways c.all_marked.result c.if-all_marked.false
+    (c.all_marked.ensures.1
+    (passed_marked f l c.args.passed.now exits c.as_slice.result.now c.as_slice.ensures c.requires.passed all)))

@@ -63,13 +63,13 @@ loop-from-preserved c =
           rw w.marks-is
           (AreMarks_skip P count Seen Later marks from.0 cases c.loop-from.invariant
           (λ entering.
-              elim w.else-reachable.branch [
-                | else-reachable-via-then-reachable+else-not-holds v ↦
-                    entering.1
-                    ((marked_contains region.blocks from.0).1 (sym v.holds.ensures ∙ v.if-not-holds.false))
-                | else-reachable-via-else-reachable v ↦
-                    both_ways c.reachable.result v.if-reachable.false (reached.1 entering.0)
-              ]))
+          elim w.else-reachable.branch [
+            | else-reachable-via-then-reachable+else-not-holds v ↦
+                entering.1
+                ((marked_contains region.blocks from.0).1 (sym v.holds.ensures ∙ v.if-not-holds.false))
+            | else-reachable-via-else-reachable v ↦
+                both_ways c.reachable.result v.if-reachable.false (reached.1 entering.0)
+          ]))
     ]
 
 pub returns : goal.returns
@@ -86,6 +86,6 @@ returns c =
     let all : take i froms ≡ preds_of f h = take_all i froms c.loop-from-test.false ∙ are in
     AreMarks_all P (length f.labels) Seen c.loop-from.marks
     (λ b entering.
-        subst (λ (xs : List BlockId). Contains xs (block_id b)) (sym all)
-        ((preds_edge f c.flow-flow.ensures.once b h).1 entering.2))
+    subst (λ (xs : List BlockId). Contains xs (block_id b)) (sym all)
+    ((preds_edge f c.flow-flow.ensures.once b h).1 entering.2))
     c.loop-from.invariant

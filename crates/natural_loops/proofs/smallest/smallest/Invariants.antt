@@ -10,5 +10,5 @@ invariant-loop-at l = record {
   within : IfSome l.least (λ k. k < length l.regions);
   exact : (f : Function) → AreAllLoops f l.regions
       → IsSmallestAmong l.regions (take l.at l.regions)
-          (λ region. IsMarked region.blocks l.b.0 × (l.other ≡ Some region.header → ⊥)) l.least;
+      (λ region. IsMarked region.blocks l.b.0 × (l.other ≡ Some region.header → ⊥)) l.least;
 }
