@@ -1,1 +1,4 @@
 pub mod WalkLemmas
+pub mod ComponentLemmas
+pub mod RootedLemmas
+pub mod NumberLemmas
