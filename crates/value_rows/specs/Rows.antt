@@ -15,11 +15,11 @@ use Rattle.ir_model.specs.Walks.{Reachable}
 use Rattle.ssa_check.specs.declared.definitions.Definition.TheVariants.{At}
 use Rattle.ssa_check.specs.Tables.{definition_of}
 use Rattle.loop_regions.specs.Loops.{Loop, IsLoop}
-use Rattle.value_rows.specs.declared.source.Source.{Source}
-use Rattle.value_rows.specs.declared.given.Given.{Given}
-use Rattle.value_rows.specs.declared.given.Given.TheVariants as given
-use Rattle.value_rows.specs.declared.row.Row.{Row}
-use Rattle.value_rows.specs.Givens.{bits, source_of, given_by, has_nuw, has_nsw}
+use Rattle.value_view.specs.declared.source.Source.{Source}
+use Rattle.value_view.specs.declared.given.Given.{Given}
+use Rattle.value_view.specs.declared.given.Given.TheVariants as given
+use Rattle.value_view.specs.declared.row.Row.{Row}
+use Rattle.value_view.specs.Givens.{bits, source_of, given_by, bare_row, has_nuw, has_nsw}
 
 -- the type of a value, as the table of values has it
 abbrev pub kind_of_info : Option ValueInfo → IrType
@@ -81,12 +81,8 @@ pub record IsRowAt (f : Function) (b : BlockId) (w : ℕ) (op : Op) (row : Row) 
   pub nuw : row.nuw ≡ has_nuw op
   pub nsw : row.nsw ≡ has_nsw op
 
--- the row of a value that no instruction defines
-abbrev pub bare_row : IrType → Row
-bare_row kind = record { block = None; bits = bits kind; given = given.Opaque; nuw = false; nsw = false }
-
 pub record IsRowOf (f : Function) (v : ℕ) (row : Row) : Type 0 where
-  pub bare : ((b : BlockId) (i : ℕ) → definition_of f v ≡ At b i → ⊥) → row ≡ bare_row (kind_at f v)
+  pub bare : ((b : BlockId) (i : ℕ) → definition_of f v ≡ At b i → ⊥) → row ≡ bare_row (bits (kind_at f v))
   pub at : (b : BlockId) (i : ℕ) (block : Block) (instr : Instr) → definition_of f v ≡ At b i
       → block_of f b.0 ≡ Some block → slice_get block.instrs i ≡ Some instr
       → IsRowAt f b (bits (kind_at f v)) instr.op row

@@ -4,15 +4,14 @@ ghost use Rattle.std.specs.Prelude.{◌≡◌, ◌<◌, ℕ, Some, All, Contains
 ghost use Rattle.ir_model.specs.declared.op.PhiEntry.{PhiEntry as Entry};
 ghost use Rattle.loop_regions.specs.Loops.{Loop};
 ghost use Rattle.natural_loops.specs.Table.{RegionParts, AreLoopsOf, loop_of};
-ghost use Rattle.value_rows.specs.Givens.{source_of};
+ghost use Rattle.value_view.specs.Givens.{source_of};
 ghost use Rattle.value_rows.specs.Rows.{IsOneOf, IsPhiGiven};
 
-use crate::given::Given;
-use crate::source::Source;
 use ir_model::PhiEntry;
 use natural_loops::LoopTable;
 use scev_base::{BlockId, LoopId, Width};
 use ssa_check::Checked;
+use value_view::{Given, Source};
 
 /// What a phi with these entries gives in a reachable block, at w bits.
 pub(crate) fn phi_given(

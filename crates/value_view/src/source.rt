@@ -1,7 +1,7 @@
 //! Operands, as far as expressions are formed of them.
 
 ghost use Rattle.std.specs.Prelude.{◌≡◌};
-ghost use Rattle.value_rows.specs.Givens.{source_of};
+ghost use Rattle.value_view.specs.Givens.{source_of};
 
 use ir_model::Operand;
 use scev_base::{ValueId, Width, wrap};
@@ -16,8 +16,8 @@ pub enum Source {
 }
 
 impl Source {
-    /// The operand of w bits, where it is a numeral or a register.
-    pub(crate) fn of(operand: Operand, w: Width) -> Option<Source>
+    /// The operand of w bits, where it is a numeral or a register. No memory.
+    pub fn of(operand: Operand, w: Width) -> Option<Source>
         ensures { result ≡ source_of w.bits operand }
     {
         match operand {

@@ -3,10 +3,9 @@
 ghost use Rattle.std.specs.Prelude.{◌≡◌, ◌<◌, ℕ, Some, Contains, length, slice_get, IfOk};
 ghost use Rattle.ir_model.specs.declared.function.Block.{Block as AnyBlock};
 ghost use Rattle.natural_loops.specs.Table.{AreLoopsOf};
-ghost use Rattle.value_rows.specs.Givens.{bits};
+ghost use Rattle.value_view.specs.Givens.{bits, bare_row, has_nuw, has_nsw};
 ghost use Rattle.value_rows.specs.Rows.{AreRows, IsRowAt};
 
-use crate::given::Given;
 use crate::header_phi::phi_given;
 use ir_model::{Block, Function, Instr, IrType, Op};
 use natural_loops::LoopTable;
@@ -14,17 +13,7 @@ use scev_base::{BlockId, Width};
 use sqlite_items::Items;
 use ssa_check::Checked;
 use std::alloc::{AllocError, Global};
-
-/// A value: the block in which it is defined, None for a parameter; how many bits it has, 0 where it is no integer; what
-/// gives it; and the flags of the `add`, `sub`, `mul` or `shl` that does.
-#[derive(Clone, Copy, Debug, PartialEq, Eq)]
-pub struct Row {
-    pub block: Option<BlockId>,
-    pub bits: u32,
-    pub given: Given,
-    pub nuw: bool,
-    pub nsw: bool,
-}
+use value_view::{Given, Row};
 
 /// What gives each value of a function, by its number, in time linear in the instructions and their operands. The error
 /// comes only where there is no memory.
@@ -44,17 +33,11 @@ pub fn rows(alloc: Global, c: &Checked, loops: &LoopTable) -> Result<Items<Row>,
 fn bare_rows(alloc: Global, f: &Function) -> Result<Vec<Row>, AllocError>
     ensures size { IfOk result (λ rows. length rows.items ≡ length f.now.values) }
     ensures each { IfOk result (λ rows. (v : ℕ) (row : Row) → slice_get rows.items v ≡ Some row
-        → row ≡ bare_row (kind_at f.now v)) }
+        → row ≡ bare_row (bits (kind_at f.now v))) }
 {
     let mut rows = Vec::new(alloc);
     for value in f.values.as_slice() {
-        rows.push(Row {
-            block: None,
-            bits: bits_of(&value.kind),
-            given: Given::Opaque,
-            nuw: false,
-            nsw: false,
-        })?;
+        rows.push(Row::bare(bits_of(&value.kind)))?;
     }
     Ok(rows)
 }

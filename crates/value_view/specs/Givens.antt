@@ -14,12 +14,13 @@ use Rattle.ir_model.specs.declared.op.Op.TheVariants.{Binary, Cast, Call}
 use Rattle.ir_model.specs.declared.min_max.MinMax.{MinMax}
 use Rattle.ir_model.specs.declared.min_max.MinMax.TheVariants as minmax
 use Rattle.ir_model.specs.Callees.{min_max_named}
-use Rattle.value_rows.specs.declared.source.Source.{Source}
-use Rattle.value_rows.specs.declared.source.Source.TheVariants.{Number, Register}
-use Rattle.value_rows.specs.declared.given.Pair.{Pair}
-use Rattle.value_rows.specs.declared.given.Pair.TheVariants as pair
-use Rattle.value_rows.specs.declared.given.Given.{Given}
-use Rattle.value_rows.specs.declared.given.Given.TheVariants as given
+use Rattle.value_view.specs.declared.source.Source.{Source}
+use Rattle.value_view.specs.declared.source.Source.TheVariants.{Number, Register}
+use Rattle.value_view.specs.declared.given.Pair.{Pair}
+use Rattle.value_view.specs.declared.given.Pair.TheVariants as pair
+use Rattle.value_view.specs.declared.given.Given.{Given}
+use Rattle.value_view.specs.declared.given.Given.TheVariants as given
+use Rattle.value_view.specs.declared.row.Row.{Row}
 
 -- how many bits an integer has, and 0 of any other type
 abbrev pub bits : IrType → ℕ
@@ -86,3 +87,7 @@ has_nuw _ = false
 abbrev pub has_nsw : Op → Bool
 has_nsw (Binary op nuw nsw exact disjoint kind left right) = nsw
 has_nsw _ = false
+
+-- the row of a value that no instruction defines
+abbrev pub bare_row : ℕ → Row
+bare_row n = record { block = None; bits = n; given = given.Opaque; nuw = false; nsw = false }

@@ -1,7 +1,7 @@
 //! Operations that give expressions.
 
 ghost use Rattle.std.specs.Prelude.{◌≡◌};
-ghost use Rattle.value_rows.specs.Givens.{pair_of, given_pair, given_cast, given_call, given_by, minimum_of};
+ghost use Rattle.value_view.specs.Givens.{pair_of, given_pair, given_cast, given_call, given_by, minimum_of, source_of};
 
 use crate::source::Source;
 use ir_model::{BinOp, CastOp, IrType, MinMax, Op, Operand, TypedOperand};
@@ -77,7 +77,7 @@ impl Pair {
 
 impl Given {
     /// What an operation other than a phi gives, at w bits.
-    pub(crate) fn of(op: &Op, w: Width) -> Given
+    pub fn of(op: &Op, w: Width) -> Given
         ensures { result ≡ given_by w.bits op.now }
     {
         match op {
