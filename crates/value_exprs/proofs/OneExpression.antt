@@ -1,5 +1,5 @@
 -- A value has one expression while some phis are in progress, and so has an operand at a place.
-use Rattle.std.proofs.Common.{◌≡◌, ℕ, false, List, ◌∷◌, Option, Some, refl, sym, subst}
+use Rattle.std.proofs.Common.{◌≡◌, ℕ, false, List, ◌∷◌, Option, Some, refl, subst}
 use Rattle.scev_base.specs.declared.ids.LoopId.{LoopId}
 use Rattle.scev_base.specs.declared.ids.ValueId.{ValueId}
 use Rattle.ir_model.specs.declared.op.CastOp.{CastOp}
@@ -105,8 +105,8 @@ record AreOneTurn (cut cut' : List ℕ) (start start' back back' : Source) (l l'
   same_loop : l' ≡ l
 
 -- one row, one home and one list of phis in progress
-one_turn : (view : View) (progress : List ℕ) (v : ℕ) (cut cut' : List ℕ) (start start' back back' : Source)
-    (l l' : LoopId)
+one_turn : (view : View) (progress : List ℕ) (v : ℕ) (cut cut' : List ℕ)
+    {start start' back back' : Source} {l l' : LoopId}
     → (row_of view v).given ≡ given.Header start back
     → (row_of view v).given ≡ given.Header start' back'
     → home view v ≡ Some l
@@ -114,7 +114,7 @@ one_turn : (view : View) (progress : List ℕ) (v : ℕ) (cut cut' : List ℕ) (
     → IsCut view v progress cut
     → IsCut view v progress cut'
     → AreOneTurn cut cut' start start' back back' l l'
-one_turn view progress v cut cut' start start' back back' l l' is is' within within' is_cut is_cut' = record {
+one_turn view progress v cut cut' is is' within within' is_cut is_cut' = record {
   same_cut = one_cut view v progress cut' cut is_cut' is_cut;
   same_start = cc;
   same_back = cc;
@@ -122,13 +122,13 @@ one_turn view progress v cut cut' start start' back back' l l' is is' within wit
 }
 
 -- the operand on the back edges has one expression
-same_next : (view : View) (v w : ℕ) (cut cut' : List ℕ) (start start' back back' : Source) (l l' : LoopId) (y y' : Tree)
+same_next : (view : View) (v w : ℕ) {cut cut' : List ℕ} {start start' back back' : Source} {l l' : LoopId} {y y' : Tree}
     → AreOneTurn cut cut' start start' back back' l l'
     → IsOnly view (v ∷ cut) w (Some l.0) back y
     → IsOperand view (v ∷ cut') w (Some l'.0) back' y'
     → y ≡ y'
-same_next view v w cut cut' start start' back back' l l' y y' turn only other =
-    only y' (rw (turn.same_cut, turn.same_back, turn.same_loop) at other)
+same_next view v w turn only other =
+    only _ (rw (turn.same_cut, turn.same_back, turn.same_loop) at other)
 
 -- a phi that advances, with operands that have one expression each, is one recurrence
 advances_again : (view : View) (progress : List ℕ) (v : ℕ) (cut : List ℕ) (start back : Source) (l : LoopId)
@@ -152,20 +152,16 @@ advances_again view progress v cut start back l x y steps z is within is_cut kee
     absurd (keeps_not (subst (KeepsName view v) (one_cut view v progress cut' cut is_cut' is_cut) keeps))
 advances_again view progress v cut start back l x y steps z is within is_cut keeps_not next_only advance start_only
     (advances cut' start' back' l' x' y' steps' is' within' is_cut' _ next' advance' start_is') =
-    let turn = one_turn view progress v cut cut' start start' back back' l l' is is' within within' is_cut is_cut' in
-    let same_y : y ≡ y' =
-        same_next view v (row_of view v).bits cut cut' start start' back back' l l' y y' turn next_only next' in
-    let advance_there : IsAdvance view l v (row_of view v).bits y steps' =
-        (rw (turn.same_loop, ← same_y) at advance') in
-    let same_steps : steps ≡ steps' =
-        one_advance view l v (row_of view v).bits y steps steps' advance advance_there in
+    let turn = one_turn view progress v cut cut' is is' within within' is_cut is_cut' in
+    let same_y : y ≡ y' = same_next view v (row_of view v).bits turn next_only next' in
+    let advance_there = rw (turn.same_loop, ← same_y) at advance' in
+    let same_steps = one_advance view l v (row_of view v).bits y steps steps' advance advance_there in
     let same_x : x ≡ x' = start_only x' (rw (turn.same_cut, turn.same_start, turn.same_loop) at start_is') in
     rw (same_x, same_steps, turn.same_loop) refl
 advances_again view progress v cut start back l x y steps z is within is_cut keeps_not next_only advance start_only
     (stays cut' start' back' l' y' is' within' is_cut' _ next' none) =
-    let turn = one_turn view progress v cut cut' start start' back back' l l' is is' within within' is_cut is_cut' in
-    let same_y : y ≡ y' =
-        same_next view v (row_of view v).bits cut cut' start start' back back' l l' y y' turn next_only next' in
+    let turn = one_turn view progress v cut cut' is is' within within' is_cut is_cut' in
+    let same_y : y ≡ y' = same_next view v (row_of view v).bits turn next_only next' in
     absurd (none steps (rw (← turn.same_loop, same_y) at advance))
 
 -- a phi that doesn't advance has its own name
@@ -184,9 +180,8 @@ stays_again view progress v cut start back l y z is _ _ _ _ (cast cut' op' w' of
 stays_again view progress v cut start back l y z is _ _ _ _ (named cut' start' back' is' _ _) = refl
 stays_again view progress v cut start back l y z is within is_cut next_only none
     (advances cut' start' back' l' x' y' steps' is' within' is_cut' _ next' advance' _) =
-    let turn = one_turn view progress v cut cut' start start' back back' l l' is is' within within' is_cut is_cut' in
-    let same_y : y ≡ y' =
-        same_next view v (row_of view v).bits cut cut' start start' back back' l l' y y' turn next_only next' in
+    let turn = one_turn view progress v cut cut' is is' within within' is_cut is_cut' in
+    let same_y : y ≡ y' = same_next view v (row_of view v).bits turn next_only next' in
     absurd (none steps' (rw (turn.same_loop, ← same_y) at advance'))
 stays_again view progress v cut start back l y z is _ _ _ _ (stays cut' start' back' l' y' is' _ _ _ _ _) = refl
 
