@@ -1,0 +1,3 @@
+pub mod WalkLemmas
+pub mod ComponentLemmas
+pub mod RootedLemmas

@@ -1,0 +1,7 @@
+//! The strongly connected components of a graph.
+#![tactic(auto)]
+
+mod connected;
+mod finish;
+
+pub use connected::components;

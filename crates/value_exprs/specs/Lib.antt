@@ -1,0 +1,4 @@
+pub mod View
+pub mod Dependence
+pub mod Steps
+pub mod Exprs
