@@ -7,7 +7,8 @@ use value_view::{Reading, Row};
 
 /// What the classification asks of a function: for each value its row, what it reads, and whether it is a phi in the
 /// header of a loop with one operand from outside and one on all back edges, of any type; for each block the innermost
-/// loop; the nest of loops; and for each loop the registers that the conditions of its exits read.
+/// loop; the nest of loops; and for each loop the one around it, as the nest has it, and the registers that the conditions
+/// of its exits read.
 #[derive(Drop)]
 pub struct FunctionView {
     pub rows: Items<Row>,
@@ -15,10 +16,12 @@ pub struct FunctionView {
     pub turns: Items<bool>,
     pub innermost: Items<Option<LoopId>>,
     pub nest: LoopNest,
+    pub around: Items<Option<u64>>,
     pub conditions: Items<Items<ValueId>>,
 }
 
 impl Model for FunctionView {
+    ghost use Rattle.std.specs.Prelude.{◌≡◌};
     ghost use Rattle.value_exprs.specs.View.{View};
 
     ghost Value = { View };
@@ -31,4 +34,6 @@ impl Model for FunctionView {
       parents = view.nest;
       conditions = view.conditions;
     } };
+
+    ghost invariant = { λ view. view.around ≡ view.nest };
 }
