@@ -18,3 +18,4 @@ pub mod ExitOrder
 pub mod Labelled
 pub mod PassedMarks
 pub mod Nests
+pub mod Places
