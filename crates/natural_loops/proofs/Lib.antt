@@ -18,4 +18,3 @@ pub mod ExitOrder
 pub mod Labelled
 pub mod PassedMarks
 pub mod Nests
-pub mod Places
