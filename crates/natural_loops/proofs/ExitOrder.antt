@@ -1,6 +1,6 @@
 -- The exits of a loop, in the order in which they are passed.
-use Rattle.std.proofs.Common.{◌≡◌, ◌≢◌, ◌↔◌, ◌==◌, ◌⊎◌, ℕ, ◌<◌, Bool, true, List, ◌∷◌, length, get_or, Some, None, All, AllPairs}
-use Rattle.std.proofs.Common.{Contains, cond, sym, ap, ◌∙◌, subst, inl, inr, arith}
+use Rattle.std.proofs.Common.{◌≡◌, ◌≢◌, ◌↔◌, ◌==◌, ◌⊎◌, ℕ, ◌<◌, Bool, List, length, get_or, Some, None, All, AllPairs}
+use Rattle.std.proofs.Common.{Contains, sym, ◌∙◌, subst, inl, inr, arith}
 use Rattle.std.proofs.lemmas.Bool.{lt-ltb, cond-true}
 use Rattle.std.proofs.lemmas.Option.{slice_get_within}
 use Rattle.std.proofs.lemmas.List.Elements.{All-get_or, Contains-get_or}

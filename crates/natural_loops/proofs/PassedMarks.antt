@@ -1,5 +1,5 @@
 -- The blocks that each turn of a loop passes, by the innermost loops that have them.
-use Rattle.std.proofs.Common.{◌≡◌, ◌≢◌, ◌==◌, ◌⊎◌, ℕ, ◌<◌, Bool, true, List, length, get_or, Option, Some, None, All, AllPairs, Contains}
+use Rattle.std.proofs.Common.{◌≡◌, ◌==◌, ℕ, ◌<◌, true, List, get_or, Option, Some, None, All, Contains}
 use Rattle.std.proofs.Common.{slice_get, eqb-true, sym, ap, ◌∙◌, subst, inl, inr, refl, arith}
 use Rattle.std.specs.Option.{option_eq}
 use Rattle.std.proofs.lemmas.Bool.{cases_eq, cases_lt, false≢true, eq-eqb}

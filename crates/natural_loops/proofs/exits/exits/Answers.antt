@@ -1,4 +1,4 @@
-use Rattle.std.proofs.Common.{◌≡◌, ◌≢◌, ◌↔◌, ◌<◌, ◌⊎◌, ℕ, Bool, true, List, All, AllPairs, Contains, IfOk, Result, Ok, Err, length, get_or, sym, ap, ◌∙◌, subst, refl, arith}
+use Rattle.std.proofs.Common.{◌≡◌, ◌≢◌, ◌↔◌, ◌<◌, ◌⊎◌, ℕ, Bool, List, All, AllPairs, Contains, IfOk, Result, Ok, Err, length, get_or, sym, subst}
 use Rattle.std.proofs.lemmas.Bool.{both_ways}
 use Rattle.std.proofs.lemmas.List.Elements.{All-weaker, Contains-get_or}
 use Rattle.scev_base.specs.declared.ids.BlockId.{BlockId}
@@ -9,7 +9,7 @@ use Rattle.ir_model.specs.WellMade.{HasIds}
 use Rattle.flow_graph.specs.Graph.{IsMarked}
 use Rattle.ssa_check.specs.Checked.{Dominates}
 use Rattle.loop_regions.specs.Loops.{Loop}
-use Rattle.natural_loops.specs.Sides.{AreInTextOrder, IsExit, IsPassedEachTurn, AreExits}
+use Rattle.natural_loops.specs.Sides.{IsExit, IsPassedEachTurn, AreExits}
 use Rattle.natural_loops.specs.Table.{loop_of}
 use Rattle.natural_loops.proofs.Bodies.{entry_is_no_target}
 use Rattle.natural_loops.proofs.LatchMarks.{edge_labelled}

@@ -1,5 +1,5 @@
-use Rattle.std.proofs.Common.{◌≡◌, ◌≢◌, ◌↔◌, ◌⊎◌, ℕ, ◌+◌, ◌<◌, ◌≤◌, List, [], All, AllPairs, Contains, length, get_or, take}
-use Rattle.std.proofs.Common.{slice_get, Some, Vec, Global, sym, ap, ◌∙◌, subst, arith}
+use Rattle.std.proofs.Common.{◌≡◌, ◌↔◌, ◌≤◌, List, All, Contains, length, get_or, take}
+use Rattle.std.proofs.Common.{slice_get, Some, subst}
 use Rattle.std.specs.List.{insert}
 use Rattle.std.proofs.lemmas.List.{take_all}
 use Rattle.scev_base.specs.declared.ids.BlockId.{BlockId as Block}

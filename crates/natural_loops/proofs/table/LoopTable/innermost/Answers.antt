@@ -1,4 +1,4 @@
-use Rattle.std.proofs.Common.{Option, List, None, get_or, ap, ◌∙◌, unwrap_or}
+use Rattle.std.proofs.Common.{Option, None, get_or, ap, ◌∙◌, unwrap_or}
 use Rattle.std.proofs.lemmas.Option.{unwrap_or-slice_get}
 use Rattle.scev_base.specs.declared.ids.LoopId.{LoopId}
 use Rattle.natural_loops.specs.Table.{TableParts}
