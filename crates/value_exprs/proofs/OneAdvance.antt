@@ -6,8 +6,7 @@ use Rattle.scev_tree.specs.Tree.{Tree, Terms, Parts, polynomial, atom, parts_of,
 use Rattle.scev_tree.specs.Invariant.{IsInvariant}
 use Rattle.scev_forms.specs.Atoms.{alone}
 use Rattle.scev_forms.proofs.Atoms.{alone_is}
-use Rattle.value_exprs.specs.View.{View}
-use Rattle.value_exprs.specs.Exprs.{IsAdvance, rest_of}
+use Rattle.value_exprs.specs.Advance.{IsAdvance, rest_of}
 
 -- trees as parts, and back
 trees_again : (trees : List Tree) → trees_of (parts_of trees) ≡ trees
@@ -46,14 +45,14 @@ same_steps parents l w rest left right (inr one) (inl (stays, is)) =
 same_steps parents l w rest left right (inr one) (inr one') = same_trees left right cc
 
 -- so is what the operand of a phi gives
-pub one_advance : (view : View) (l : LoopId) (v w : ℕ) (next : Tree) (left right : List Tree)
-    → IsAdvance view l v w next left
-    → IsAdvance view l v w next right
+pub one_advance : (parents : List (Option ℕ)) (l : LoopId) (v w : ℕ) (next : Tree) (left right : List Tree)
+    → IsAdvance parents l v w next left
+    → IsAdvance parents l v w next right
     → left ≡ right
-one_advance view l v w next left right a b =
+one_advance parents l v w next left right a b =
     let whole : polynomial w a.all ≡ polynomial w b.all = sym a.is ∙ b.is in
     let same_all : a.all ≡ b.all = cc in
     let split : Some a.rest ≡ Some b.rest = sym a.split ∙ ap (rest_of v) same_all ∙ b.split in
     let same_rest : a.rest ≡ b.rest = cc in
-    same_steps view.parents l w b.rest left right
-    (subst (λ rest. AreSteps view.parents l w rest left) same_rest a.parts) b.parts
+    same_steps parents l w b.rest left right
+    (subst (λ rest. AreSteps parents l w rest left) same_rest a.parts) b.parts

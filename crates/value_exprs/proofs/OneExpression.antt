@@ -9,10 +9,11 @@ use Rattle.value_view.specs.declared.source.Source.{Source}
 use Rattle.value_view.specs.declared.source.Source.TheVariants.{Number, Register}
 use Rattle.value_view.specs.declared.given.Pair.{Pair}
 use Rattle.value_view.specs.declared.given.Given.TheVariants as given
-use Rattle.value_exprs.specs.View.{View, row_of, number_of_loop, home, leaf, Leaves}
+use Rattle.value_exprs.specs.View.{View, row_of, number_of_loop, home, leaf, outside, Leaves}
 use Rattle.value_exprs.specs.Dependence.{IsCut}
+use Rattle.value_exprs.specs.Advance.{IsAdvance}
 use Rattle.value_exprs.specs.Steps.{formed_pair, formed_cast, or_leaf, formed_or_leaf}
-use Rattle.value_exprs.specs.Exprs.{IsAdvance, outside, KeepsName, IsExpr, opaque, pair, cast, named, advances, stays}
+use Rattle.value_exprs.specs.Exprs.{KeepsName, IsExpr, opaque, pair, cast, named, advances, stays}
 use Rattle.value_exprs.specs.Exprs.{IsOperand, number, left_loop, inside}
 use Rattle.value_exprs.proofs.OneCut.{one_cut}
 use Rattle.value_exprs.proofs.OneAdvance.{one_advance}
@@ -138,7 +139,7 @@ advances_again : (view : View) (progress : List ℕ) (v : ℕ) (cut : List ℕ) 
     → IsCut view v progress cut
     → (KeepsName view v cut → ⊥)
     → IsOnly view (v ∷ cut) (row_of view v).bits (Some l.0) back y
-    → IsAdvance view l v (row_of view v).bits y steps
+    → IsAdvance view.parents l v (row_of view v).bits y steps
     → IsOnly view cut (row_of view v).bits (outside view l) start x
     → IsExpr view progress v z
     → or_leaf (leaf view v) (recurrence_of (row_of view v).bits l.0 (x ∷ steps)) ≡ z
@@ -155,7 +156,7 @@ advances_again view progress v cut start back l x y steps z is within is_cut kee
     let turn = one_turn view progress v cut cut' is is' within within' is_cut is_cut' in
     let same_y : y ≡ y' = same_next view v (row_of view v).bits turn next_only next' in
     let advance_there = rw (turn.same_loop, ← same_y) at advance' in
-    let same_steps = one_advance view l v (row_of view v).bits y steps steps' advance advance_there in
+    let same_steps = one_advance view.parents l v (row_of view v).bits y steps steps' advance advance_there in
     let same_x : x ≡ x' = start_only x' (rw (turn.same_cut, turn.same_start, turn.same_loop) at start_is') in
     rw (same_x, same_steps, turn.same_loop) refl
 advances_again view progress v cut start back l x y steps z is within is_cut keeps_not next_only advance start_only
@@ -171,7 +172,7 @@ stays_again : (view : View) (progress : List ℕ) (v : ℕ) (cut : List ℕ) (st
     → home view v ≡ Some l
     → IsCut view v progress cut
     → IsOnly view (v ∷ cut) (row_of view v).bits (Some l.0) back y
-    → ((steps : List Tree) → IsAdvance view l v (row_of view v).bits y steps → ⊥)
+    → ((steps : List Tree) → IsAdvance view.parents l v (row_of view v).bits y steps → ⊥)
     → IsExpr view progress v z
     → leaf view v ≡ z
 stays_again view progress v cut start back l y z is _ _ _ _ (opaque is') = refl

@@ -1,59 +1,18 @@
 -- The expression of a value while phis of headers are in progress.
-use Rattle.std.specs.Prelude.{◌≡◌, ◌⊎◌, ℕ, ◌<◌, ◌≤◌, ◌==◌, ◌&&◌, Bool, true, false, if◌then◌else◌, List, [], ◌∷◌, length, Contains}
-use Rattle.std.specs.Prelude.{Option, Some, None, slice_index_or}
+use Rattle.std.specs.Prelude.{◌≡◌, ℕ, ◌<◌, ◌≤◌, List, ◌∷◌, length, Contains, Option, Some}
 use Rattle.scev_base.specs.declared.ids.ValueId.{ValueId}
 use Rattle.scev_base.specs.declared.ids.LoopId.{LoopId}
 use Rattle.ir_model.specs.declared.op.CastOp.{CastOp}
-use Rattle.scev_tree.specs.declared.kind.Kind.{Kind}
-use Rattle.scev_tree.specs.declared.kind.Kind.TheVariants as kind
-use Rattle.scev_tree.specs.Tree.{Tree, Terms, Factors, Parts, polynomial, no_terms, term, no_factors, factor, atom, no_parts}
-use Rattle.scev_tree.specs.Tree.{constant, parts_of}
-use Rattle.scev_tree.specs.Invariant.{IsInvariant}
-use Rattle.scev_arena.specs.Limits.{is_in}
-use Rattle.scev_forms.specs.Atoms.{alone}
+use Rattle.scev_tree.specs.Tree.{Tree, constant}
 use Rattle.scev_forms.specs.Sums.{recurrence_of}
 use Rattle.value_view.specs.declared.source.Source.{Source}
 use Rattle.value_view.specs.declared.source.Source.TheVariants.{Number, Register}
 use Rattle.value_view.specs.declared.given.Pair.{Pair}
 use Rattle.value_view.specs.declared.given.Given.TheVariants as given
-use Rattle.value_exprs.specs.View.{View, row_of, number_of_loop, home, leaf, Leaves}
+use Rattle.value_exprs.specs.View.{View, row_of, number_of_loop, home, leaf, outside, Leaves}
 use Rattle.value_exprs.specs.Dependence.{IsCut, IsGroup}
 use Rattle.value_exprs.specs.Steps.{formed_pair, formed_cast, or_leaf, formed_or_leaf}
-
--- ---- how a phi goes on in a turn
-
--- a register's own monomial
-abbrev pub is_register : ℕ → Kind → Parts → Bool
-is_register v (kind.Leaf register home) parts = register.0 == v
-is_register v _ parts = false
-
-abbrev pub is_own : ℕ → Factors → ℕ → Bool
-is_own v (factor (atom k w parts) no_factors) n = is_register v k parts && (n == 1)
-is_own v _ n = false
-
-abbrev pub behind : Factors → ℕ → Option Terms → Option Terms
-behind factors n None = None
-behind factors n (Some terms) = Some (term factors n terms)
-
--- the other monomials, where one is the register's own with coefficient 1
-abbrev pub rest_of : ℕ → Terms → Option Terms
-rest_of v no_terms = None
-rest_of v (term factors n terms) = if is_own v factors n then Some terms else behind factors n (rest_of v terms)
-
--- In each turn of a loop a phi's operand adds to it what is invariant in the loop, or a recurrence of the loop. The
--- parts behind the start of the phi's recurrence are that, or that one's.
-pub record IsAdvance (view : View) (l : LoopId) (v w : ℕ) (next : Tree) (steps : List Tree) : Type 0 where
-  pub all : Terms
-  pub rest : Terms
-  pub is : next ≡ polynomial w all
-  pub split : rest_of v all ≡ Some rest
-  pub without : is_in (λ terms. false) (is_register v) (polynomial w rest) ≡ false
-  pub parts : (IsInvariant view.parents l.0 (polynomial w rest) × (steps ≡ polynomial w rest ∷ []))
-      ⊎ (alone (polynomial w rest) ≡ Some (atom (kind.Rec l) w (parts_of steps)))
-
--- the loop around one
-abbrev pub outside : View → LoopId → Option ℕ
-outside view l = slice_index_or view.parents l.0 None
+use Rattle.value_exprs.specs.Advance.{IsAdvance}
 
 -- a phi with these ones in progress keeps its own name: it is in progress itself, its group has more than 12 phis, or it
 -- would be the fifth
@@ -94,7 +53,7 @@ mutual
         → IsCut view v progress cut
         → (KeepsName view v cut → ⊥)
         → IsOperand view (v ∷ cut) (row_of view v).bits (Some l.0) back y
-        → IsAdvance view l v (row_of view v).bits y steps
+        → IsAdvance view.parents l v (row_of view v).bits y steps
         → IsOperand view cut (row_of view v).bits (outside view l) start x
         → IsExpr view progress v (or_leaf (leaf view v) (recurrence_of (row_of view v).bits l.0 (x ∷ steps)))
     stays : {progress : List ℕ} {v : ℕ} (cut : List ℕ) (start back : Source) (l : LoopId) (y : Tree)
@@ -103,7 +62,7 @@ mutual
         → IsCut view v progress cut
         → (KeepsName view v cut → ⊥)
         → IsOperand view (v ∷ cut) (row_of view v).bits (Some l.0) back y
-        → ((steps : List Tree) → IsAdvance view l v (row_of view v).bits y steps → ⊥)
+        → ((steps : List Tree) → IsAdvance view.parents l v (row_of view v).bits y steps → ⊥)
         → IsExpr view progress v (leaf view v)
 
   pub data IsOperand (view : View) : List ℕ → ℕ → Option ℕ → Source → Tree → Type 0 where

@@ -2,19 +2,13 @@
 use Rattle.std.specs.Prelude.{◌≡◌, ℕ, ◌==◌, Bool, true, false, List, [], ◌∷◌, Option, Some, None, slice_get, slice_index_or}
 use Rattle.scev_base.specs.declared.ids.BlockId.{BlockId}
 use Rattle.scev_base.specs.declared.ids.LoopId.{LoopId}
+use Rattle.scev_base.specs.declared.ids.ValueId.{ValueId}
 use Rattle.scev_base.specs.Nest.{Contains}
 use Rattle.scev_tree.specs.declared.kind.Kind.TheVariants as kind
 use Rattle.scev_tree.specs.Tree.{Tree, of_atom, atom, no_parts}
-use Rattle.value_view.specs.declared.given.Given.{Given}
-use Rattle.value_view.specs.declared.given.Given.TheVariants as given
+use Rattle.value_view.specs.declared.reading.Reading.{Reading}
 use Rattle.value_view.specs.declared.row.Row.{Row}
 use Rattle.value_view.specs.Givens.{bare_row}
-
--- A register that an instruction reads, and the innermost loop that holds the place of that: the instruction's block, or
--- for a phi the edge.
-pub record Reading : Type 0 where
-  pub register : ℕ
-  pub place : Option ℕ
 
 -- For each value its row, what it reads, and whether it is a phi in the header of a loop with one operand from outside and
 -- one on all back edges; for each block the innermost loop; for each loop the one around it, and the registers that the
@@ -25,10 +19,16 @@ pub record View : Type 0 where
   pub turns : List Bool
   pub innermost : List (Option LoopId)
   pub parents : List (Option ℕ)
-  pub conditions : List (List ℕ)
+  pub conditions : List (List ValueId)
 
 abbrev pub row_of : View → ℕ → Row
 row_of view v = slice_index_or view.rows v (bare_row 0)
+
+abbrev pub reads_of : View → ℕ → List Reading
+reads_of view v = slice_index_or view.reads v []
+
+abbrev pub conditions_of : View → ℕ → List ValueId
+conditions_of view l = slice_index_or view.conditions l []
 
 abbrev pub number_of_loop : Option LoopId → Option ℕ
 number_of_loop None = None
@@ -46,6 +46,10 @@ home view v = home_of_block view (row_of view v).block
 abbrev pub leaf : View → ℕ → Tree
 leaf view v = of_atom (row_of view v).bits
     (atom (kind.Leaf (record { 0 = v }) (home view v)) (row_of view v).bits no_parts)
+
+-- the loop around one
+abbrev pub outside : View → LoopId → Option ℕ
+outside view l = slice_index_or view.parents l.0 None
 
 -- a loop holds a place, given by the innermost loop that does
 abbrev pub Holds : View → ℕ → Option ℕ → Type 0

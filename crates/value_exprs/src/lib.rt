@@ -2,5 +2,7 @@
 #![tactic(auto)]
 
 mod laws;
+mod view;
 
-pub use laws::one_expression;
+pub use laws::{mutual_phis_count, one_expression};
+pub use view::FunctionView;

@@ -2,9 +2,11 @@
 #![tactic(auto)]
 
 mod given;
+mod reading;
 mod row;
 mod source;
 
 pub use given::{Given, Pair};
+pub use reading::Reading;
 pub use row::Row;
 pub use source::Source;
