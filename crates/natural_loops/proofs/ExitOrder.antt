@@ -21,7 +21,8 @@ use Rattle.natural_loops.proofs.Bodies.{header_dominates}
 use Rattle.natural_loops.proofs.Passing.{dominators_chain, walks_pass, turn_passes}
 
 -- what is found stands somewhere
-found_place : {X : Type 0} (p : X → Bool) (xs : List X) (x : X) → find p xs ≡ Some x → (i : ℕ) × (position p xs ≡ Some i)
+found_place : {X : Type 0} (p : X → Bool) (xs : List X) (x : X) → find p xs ≡ Some x
+    → (i : ℕ) × (position p xs ≡ Some i)
 found_place p xs x found =
     let n = position_or_len p xs in
     let within : n < length xs = slice_get_within xs n x (sym (find_at p xs) ∙ found) in
@@ -54,7 +55,8 @@ module _ (f : Function) (never : (a : ℕ) → Edge f a (entry f.blocks) → ⊥
       (latch_dominated a first latch.0 latch.1) (latch_dominated b second latch.0 latch.1)
 
   -- and comes before it
-  pub passed_before : (a b : ℕ) → Contains l.blocks a → Contains l.blocks b → Dominates f a b → a ≢ b → ComesBefore f l a b
+  pub passed_before : (a b : ℕ) → Contains l.blocks a → Contains l.blocks b → Dominates f a b → a ≢ b
+      → ComesBefore f l a b
   passed_before a b held also dominates apart =
       let region = is_loop.region in
       let later : b ≢ l.header =

@@ -1,5 +1,6 @@
 -- The loops around loops, and the innermost loops of blocks.
-use Rattle.std.proofs.Common.{◌≡◌, ◌≢◌, ◌⊎◌, ℕ, zero, suc, ◌+◌, ◌<◌, ◌≤◌, Bool, true, false, not, List, [], ◌∷◌, ◌++◌, length}
+use Rattle.std.proofs.Common.{◌≡◌, ◌≢◌, ◌⊎◌, ℕ, zero, suc, ◌+◌, ◌<◌, ◌≤◌, Bool, true, false, not, List, [], ◌∷◌, ◌++◌}
+use Rattle.std.proofs.Common.{length}
 use Rattle.std.proofs.Common.{get_or, slice_get, count_by, Option, Some, None, Contains, sym, ap, ◌∙◌, subst, inl, inr}
 use Rattle.std.proofs.Common.{refl, arith}
 use Rattle.std.specs.List.{range_with_len}
@@ -181,7 +182,8 @@ module _ (f : Function) (regions : List RegionParts) (are : AreAllLoops f region
               | inr free ↦ not_from_false (get_or inner.blocks x false) free
             ] in
             one_fewer p q numbers (λ k d within. weaker (get_or numbers k d)) h
-            (numbers_have h (marked_labelled outer second h header)) (not_from_true (get_or outer.blocks h false) header)
+            (numbers_have h (marked_labelled outer second h header))
+            (not_from_true (get_or outer.blocks h false) header)
             (not_from_false (get_or inner.blocks h false) out)
 
         rank : ℕ → ℕ

@@ -128,5 +128,6 @@ module _ (f : Function) (regions : List RegionParts) (are : AreAllLoops f region
                 let inside = λ (x : ℕ) (there : Contains (loop_of inner).blocks x).
                 (marked_contains region.blocks x).1 (within x ((marked_contains inner.blocks x).0 there)) in
                 absurd
-                (passed.alone (loop_of inner) is_inner.is_loop (inside, apart) ((marked_contains inner.blocks b).1 least.2))
+                (passed.alone (loop_of inner) is_inner.is_loop (inside, apart)
+                ((marked_contains inner.blocks b).1 least.2))
           ]

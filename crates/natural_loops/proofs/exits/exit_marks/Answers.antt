@@ -9,7 +9,9 @@ use Rattle.natural_loops.proofs.LatchMarks.{edge_labelled}
 use Rattle.natural_loops.proofs.Marking.{AreMarks_skip, AreMarks_more, AreMarks_all}
 use Rattle.natural_loops.proofs.ExitMarks.{exit_from, exit_marked, exit_leaves, below_cases}
 use Rattle.natural_loops.proofs.exits.exit_marks.Goals as goal
-use Rattle.natural_loops.proofs.exits.exit_marks.Goals.{then-holds+then-leaves, else-holds, else-holds-via-then-holds+else-leaves, else-holds-via-else-holds}
+use Rattle.natural_loops.proofs.exits.exit_marks.Goals.{then-holds+then-leaves, else-holds}
+use Rattle.natural_loops.proofs.exits.exit_marks.Goals.{else-holds-via-then-holds+else-leaves}
+use Rattle.natural_loops.proofs.exits.exit_marks.Goals.{else-holds-via-else-holds}
 
 pub loop-b-preserved : goal.loop-b-preserved
 loop-b-preserved c =

@@ -28,7 +28,8 @@ loop-b-preserved c =
     let is : c.insert.new.self.items ≡ insert found at b = c.in_ok-insert.ensures.items in
     record {
       same = λ x. rw is (same_insert f blocks found i at d within fits inv.same x);
-      ordered = rw is (ordered_insert f blocks found i at d within fits inv.same c.requires.chain none first inv.ordered);
+      ordered = rw is
+          (ordered_insert f blocks found i at d within fits inv.same c.requires.chain none first inv.ordered);
       apart = rw is (apart_insert f blocks found i at d within fits inv.same c.requires.apart inv.apart);
     }
 

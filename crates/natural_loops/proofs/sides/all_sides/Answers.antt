@@ -35,7 +35,8 @@ loop-k-preserved c =
     let new : List SidesParts = c.push.new.self in
     let inv = c.loop-k.invariant in
     let within : n < length regions = c.loop-k-test.true in
-    let at : slice_get regions n ≡ Some own = slice_get-get_or regions n own within ∙ ap Some (sym c.index-regions-k.is) in
+    let at : slice_get regions n ≡ Some own =
+    slice_get-get_or regions n own within ∙ ap Some (sym c.index-regions-k.is) in
     let pushed : new ≡ old ++ around ∷ [] = c.in_ok-push.ensures.ok in
     let Q : ℕ → SidesParts → Type 0 = λ k side. (region : RegionParts) → slice_get regions k ≡ Some region
     → AreSidesOf f (loop_of region) side in
@@ -45,6 +46,6 @@ loop-k-preserved c =
     record {
       size = ap (λ (xs : List SidesParts). length xs) pushed ∙ length_push old around ∙ ap (λ (k : ℕ). k + 1) inv.size;
       each = λ k region side there is.
-          each_pushed Q old new n around pushed inv.size (λ j x at region there. inv.each j region x there at) here k side
-          is region there;
+          each_pushed Q old new n around pushed inv.size (λ j x at region there. inv.each j region x there at) here k
+          side is region there;
     }

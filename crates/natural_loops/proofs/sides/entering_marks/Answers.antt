@@ -13,7 +13,9 @@ use Rattle.natural_loops.proofs.Marks.{marked_contains}
 use Rattle.natural_loops.proofs.Marking.{AreMarks_skip, AreMarks_more, AreMarks_all}
 use Rattle.natural_loops.proofs.ExitMarks.{seen_cases}
 use Rattle.natural_loops.proofs.sides.entering_marks.Goals as goal
-use Rattle.natural_loops.proofs.sides.entering_marks.Goals.{then-reachable+then-not-holds, else-reachable, else-reachable-via-then-reachable+else-not-holds, else-reachable-via-else-reachable}
+use Rattle.natural_loops.proofs.sides.entering_marks.Goals.{then-reachable+then-not-holds, else-reachable}
+use Rattle.natural_loops.proofs.sides.entering_marks.Goals.{else-reachable-via-then-reachable+else-not-holds}
+use Rattle.natural_loops.proofs.sides.entering_marks.Goals.{else-reachable-via-else-reachable}
 
 pub set-requires : goal.set-requires
 set-requires c =

@@ -7,9 +7,12 @@ use Rattle.scev_base.specs.declared.ids.BlockId.{BlockId}
 use Rattle.flow_graph.specs.Graph.{IsMarked}
 use Rattle.natural_loops.specs.Table.{RegionParts}
 use Rattle.natural_loops.proofs.SmallestLoop.{IsSmallestAmong, IsSmallestAmong_skip}
-use Rattle.natural_loops.proofs.SmallestLoop.{IsSmallestAmong_more, IsSmallestAmong_kept, IsSmallestAmong_all, same_header, header_same}
+use Rattle.natural_loops.proofs.SmallestLoop.{IsSmallestAmong_more, IsSmallestAmong_kept, IsSmallestAmong_all}
+use Rattle.natural_loops.proofs.SmallestLoop.{same_header, header_same}
 use Rattle.natural_loops.proofs.smallest.smallest.Goals as goal
-use Rattle.natural_loops.proofs.smallest.smallest.Goals.{then-holds+then-ne+then-is_inside, else-holds, else-holds-via-then-holds+then-ne+else-is_inside, else-holds-via-then-holds+else-ne, else-holds-via-else-holds}
+use Rattle.natural_loops.proofs.smallest.smallest.Goals.{then-holds+then-ne+then-is_inside, else-holds}
+use Rattle.natural_loops.proofs.smallest.smallest.Goals.{else-holds-via-then-holds+then-ne+else-is_inside}
+use Rattle.natural_loops.proofs.smallest.smallest.Goals.{else-holds-via-then-holds+else-ne, else-holds-via-else-holds}
 
 pub loop-at-preserved : goal.loop-at-preserved
 loop-at-preserved c =
