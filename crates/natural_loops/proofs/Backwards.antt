@@ -1,10 +1,10 @@
 -- The edges of a function, each the other way round.
-use Rattle.std.proofs.Common.{◌≡◌, ◌≢◌, ◌↔◌, ℕ, ◌+◌, ◌<◌, List, [], ◌∷◌, ◌++◌, length, All, Contains, sym, ◌∙◌, subst}
+use Rattle.std.proofs.Common.{◌↔◌, ℕ, ◌+◌, ◌<◌, List, [], ◌∷◌, ◌++◌, length, All, Contains, sym, ◌∙◌, subst}
 use Rattle.std.proofs.Common.{inl, inr, arith}
 use Rattle.std.proofs.lemmas.Bool.{cases_eq}
 use Rattle.std.proofs.lemmas.List.Elements.{Contains-get_or, Contains-append_left, Contains-push, Contains-push_cases}
 use Rattle.ir_model.specs.declared.function.Function.{Function}
-use Rattle.ir_model.specs.Walks.{Edge, Reachable}
+use Rattle.ir_model.specs.Walks.{Reachable}
 use Rattle.ir_model.specs.WellMade.{HasIds}
 use Rattle.flow_graph.specs.Graph.{IsGraphOf, IsReversed}
 use Rattle.natural_loops.specs.Backward.{IsBackward}

@@ -1,28 +1,23 @@
 -- The blocks that are found from latches against the edges are a loop, and each loop is found so.
-use Rattle.std.proofs.Common.{◌≡◌, ◌≢◌, ◌↔◌, ◌==◌, ℕ, zero, suc, Bool, true, false, not, ◌||◌, List, [], ◌∷◌, map}
-use Rattle.std.proofs.Common.{flat_map, Option, Some, None, All, Contains, slice_get, refl, sym, ap, ◌∙◌, subst}
+use Rattle.std.proofs.Common.{◌≡◌, ◌≢◌, ◌↔◌, ◌==◌, ℕ, Bool, true, not, ◌||◌, List, [], ◌∷◌, map}
+use Rattle.std.proofs.Common.{flat_map, All, Contains, refl, sym, ap, ◌∙◌, subst}
 use Rattle.std.proofs.Common.{inl, inr, arith}
 use Rattle.std.specs.List.{list_any}
 use Rattle.std.proofs.lemmas.Bool.{both_ways, cases_eq, eq-eqb, not-true}
 use Rattle.std.proofs.lemmas.List.Elements.{All-head, All-tail, All-weaker}
 use Rattle.std.proofs.lemmas.List.Folds.{list_any-append, list_any_at}
-use Rattle.std.proofs.lemmas.Option.{none-some, same_Some}
 use Rattle.ir_model.specs.declared.function.Instr.{Instr}
 use Rattle.ir_model.specs.declared.function.Block.{Block}
 use Rattle.ir_model.specs.declared.function.Function.{Function}
 use Rattle.ir_model.specs.declared.signature.Signatures.{Signatures}
-use Rattle.ir_model.specs.declared.rule.Rule.{Rule}
 use Rattle.ir_model.specs.declared.rule.Rule.TheVariants.{EntryHasPredecessor}
-use Rattle.ir_model.specs.declared.rule.Place.{Place}
 use Rattle.ir_model.specs.declared.rule.Place.TheVariants.{BlockAt}
 use Rattle.ir_model.specs.Shapes.{entry, targets}
-use Rattle.ir_model.specs.WellMade.{IsWellMade}
 use Rattle.ir_model.specs.Walks.{successors, Edge, Walk, Trail}
 use Rattle.ir_model.specs.Walks.Trail.{begins, enters}
 use Rattle.ir_rules.specs.Accepted.{IsAccepted}
 use Rattle.ir_rules.specs.Blocks.{is_target}
-use Rattle.ir_rules.specs.Names.{unless}
-use Rattle.ir_rules.specs.Rules.{broken, shape_rules, first_with, first_of}
+use Rattle.ir_rules.specs.Rules.{broken, shape_rules}
 use Rattle.ir_rules.specs.Spots.{Spot, block_spots}
 use Rattle.flow_graph.specs.Graph.{IsMarked}
 use Rattle.flow_graph.proofs.ArcLemmas.{find_is}

@@ -1,6 +1,6 @@
 -- The exits of a loop, in the order in which they are passed.
-use Rattle.std.proofs.Common.{◌≡◌, ◌≢◌, ◌↔◌, ◌==◌, ◌⊎◌, ℕ, ◌<◌, Bool, true, List, ◌∷◌, length, get_or, Some, None, All, AllPairs}
-use Rattle.std.proofs.Common.{Contains, cond, sym, ap, ◌∙◌, subst, inl, inr, arith}
+use Rattle.std.proofs.Common.{◌≡◌, ◌≢◌, ◌↔◌, ◌==◌, ◌⊎◌, ℕ, ◌<◌, Bool, List, length, get_or, Some, None, All, AllPairs}
+use Rattle.std.proofs.Common.{Contains, sym, ◌∙◌, subst, inl, inr, arith}
 use Rattle.std.proofs.lemmas.Bool.{lt-ltb, cond-true}
 use Rattle.std.proofs.lemmas.Option.{slice_get_within}
 use Rattle.std.proofs.lemmas.List.Elements.{All-get_or, Contains-get_or}
@@ -21,7 +21,8 @@ use Rattle.natural_loops.proofs.Bodies.{header_dominates}
 use Rattle.natural_loops.proofs.Passing.{dominators_chain, walks_pass, turn_passes}
 
 -- what is found stands somewhere
-found_place : {X : Type 0} (p : X → Bool) (xs : List X) (x : X) → find p xs ≡ Some x → (i : ℕ) × (position p xs ≡ Some i)
+found_place : {X : Type 0} (p : X → Bool) (xs : List X) (x : X) → find p xs ≡ Some x
+    → (i : ℕ) × (position p xs ≡ Some i)
 found_place p xs x found =
     let n = position_or_len p xs in
     let within : n < length xs = slice_get_within xs n x (sym (find_at p xs) ∙ found) in
@@ -54,7 +55,8 @@ module _ (f : Function) (never : (a : ℕ) → Edge f a (entry f.blocks) → ⊥
       (latch_dominated a first latch.0 latch.1) (latch_dominated b second latch.0 latch.1)
 
   -- and comes before it
-  pub passed_before : (a b : ℕ) → Contains l.blocks a → Contains l.blocks b → Dominates f a b → a ≢ b → ComesBefore f l a b
+  pub passed_before : (a b : ℕ) → Contains l.blocks a → Contains l.blocks b → Dominates f a b → a ≢ b
+      → ComesBefore f l a b
   passed_before a b held also dominates apart =
       let region = is_loop.region in
       let later : b ≢ l.header =

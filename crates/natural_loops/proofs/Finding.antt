@@ -5,9 +5,9 @@ use Rattle.std.proofs.lemmas.List.{get_or_default, length-replicate}
 use Rattle.std.proofs.lemmas.List.Elements.{All-nil, All-cons, All-push, All-contains, All-weaker}
 use Rattle.scev_base.specs.declared.ids.BlockId.{BlockId}
 use Rattle.ir_model.specs.declared.function.Function.{Function}
-use Rattle.ir_model.specs.Walks.{Edge, Walk, Reachable, Trail}
+use Rattle.ir_model.specs.Walks.{Edge, Walk, Reachable}
 use Rattle.ir_model.specs.Walks.Trail.{enters}
-use Rattle.flow_graph.specs.Graph.{Arc, Path, IsMarked, ArcToUnmarked, AreAllFound}
+use Rattle.flow_graph.specs.Graph.{Path, IsMarked, ArcToUnmarked, AreAllFound}
 use Rattle.flow_graph.proofs.PathLemmas.{path_holds}
 use Rattle.flow_graph.proofs.SearchLemmas.{set_marked, set_cases, no_mark}
 use Rattle.ssa_check.specs.Checked.{Dominates}

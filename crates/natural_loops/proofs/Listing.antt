@@ -1,6 +1,6 @@
 -- Marked blocks in text order.
 use Rattle.std.proofs.Common.{◌≡◌, ◌≢◌, ◌↔◌, ◌==◌, ℕ, zero, suc, Bool, false, List, [], ◌∷◌, get_or, map, filter, Some}
-use Rattle.std.proofs.Common.{◌+◌, ◌<◌, ◌++◌, length, take, true, AllPairs, Contains, eqb-true, refl, sym, ap, ◌∙◌}
+use Rattle.std.proofs.Common.{◌+◌, ◌<◌, ◌++◌, length, take, AllPairs, Contains, eqb-true, refl, sym, ap, ◌∙◌}
 use Rattle.std.proofs.Common.{subst, arith}
 use Rattle.std.proofs.lemmas.List.{take_more, map-append, append-nil}
 use Rattle.std.proofs.lemmas.List.Elements.{filter-append}

@@ -1,6 +1,7 @@
 -- The loops around loops, and the innermost loops of blocks.
-use Rattle.std.proofs.Common.{◌≡◌, ◌≢◌, ◌==◌, ◌⊎◌, ℕ, zero, suc, ◌+◌, ◌<◌, ◌≤◌, Bool, true, false, not, List, [], ◌∷◌, ◌++◌, length}
-use Rattle.std.proofs.Common.{get_or, slice_get, count_by, Option, Some, None, All, Contains, sym, ap, ◌∙◌, subst, inl, inr}
+use Rattle.std.proofs.Common.{◌≡◌, ◌≢◌, ◌⊎◌, ℕ, zero, suc, ◌+◌, ◌<◌, ◌≤◌, Bool, true, false, not, List, [], ◌∷◌, ◌++◌}
+use Rattle.std.proofs.Common.{length}
+use Rattle.std.proofs.Common.{get_or, slice_get, count_by, Option, Some, None, Contains, sym, ap, ◌∙◌, subst, inl, inr}
 use Rattle.std.proofs.Common.{refl, arith}
 use Rattle.std.specs.List.{range_with_len}
 use Rattle.std.specs.Option.{option_map, MatchOption, IsSomeAnd}
@@ -9,7 +10,6 @@ use Rattle.std.proofs.lemmas.Option.{same_Some, none-some, slice_get_within, sli
 use Rattle.std.proofs.lemmas.List.{get_or_push, get_or_append_left}
 use Rattle.std.proofs.lemmas.List.FromFn.{length-range_with_len, get_or-range_with_len}
 use Rattle.scev_base.specs.declared.ids.BlockId.{BlockId}
-use Rattle.scev_base.specs.declared.ids.LoopId.{LoopId}
 use Rattle.scev_base.specs.Nest.{IsNest}
 use Rattle.scev_base.proofs.NestLemmas.{falling_nest}
 use Rattle.ir_model.specs.declared.function.Function.{Function}
@@ -18,7 +18,6 @@ use Rattle.ir_model.specs.Walks.{Edge}
 use Rattle.ir_model.specs.WellMade.{HasIds}
 use Rattle.flow_graph.specs.Graph.{IsMarked}
 use Rattle.ssa_check.proofs.CountLemmas.{one_fewer}
-use Rattle.loop_regions.specs.Loops.{Loop, IsLoop}
 use Rattle.natural_loops.specs.Sides.{StandsIn}
 use Rattle.natural_loops.specs.Table.{RegionParts, IsRegionOf, AreAllLoops, IsSmallest, IsInnermost, IsParent, loop_of}
 use Rattle.natural_loops.proofs.Marks.{marked_contains}
@@ -183,7 +182,8 @@ module _ (f : Function) (regions : List RegionParts) (are : AreAllLoops f region
               | inr free ↦ not_from_false (get_or inner.blocks x false) free
             ] in
             one_fewer p q numbers (λ k d within. weaker (get_or numbers k d)) h
-            (numbers_have h (marked_labelled outer second h header)) (not_from_true (get_or outer.blocks h false) header)
+            (numbers_have h (marked_labelled outer second h header))
+            (not_from_true (get_or outer.blocks h false) header)
             (not_from_false (get_or inner.blocks h false) out)
 
         rank : ℕ → ℕ

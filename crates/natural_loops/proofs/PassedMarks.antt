@@ -1,5 +1,5 @@
 -- The blocks that each turn of a loop passes, by the innermost loops that have them.
-use Rattle.std.proofs.Common.{◌≡◌, ◌≢◌, ◌==◌, ◌⊎◌, ℕ, ◌<◌, Bool, true, List, length, get_or, Option, Some, None, All, AllPairs, Contains}
+use Rattle.std.proofs.Common.{◌≡◌, ◌==◌, ℕ, ◌<◌, true, List, get_or, Option, Some, None, All, Contains}
 use Rattle.std.proofs.Common.{slice_get, eqb-true, sym, ap, ◌∙◌, subst, inl, inr, refl, arith}
 use Rattle.std.specs.Option.{option_eq}
 use Rattle.std.proofs.lemmas.Bool.{cases_eq, cases_lt, false≢true, eq-eqb}
@@ -128,5 +128,6 @@ module _ (f : Function) (regions : List RegionParts) (are : AreAllLoops f region
                 let inside = λ (x : ℕ) (there : Contains (loop_of inner).blocks x).
                 (marked_contains region.blocks x).1 (within x ((marked_contains inner.blocks x).0 there)) in
                 absurd
-                (passed.alone (loop_of inner) is_inner.is_loop (inside, apart) ((marked_contains inner.blocks b).1 least.2))
+                (passed.alone (loop_of inner) is_inner.is_loop (inside, apart)
+                ((marked_contains inner.blocks b).1 least.2))
           ]

@@ -1,5 +1,5 @@
 -- The loops of a function, header by header.
-use Rattle.std.proofs.Common.{◌≡◌, ◌≢◌, ℕ, ◌+◌, ◌<◌, ◌≤◌, Bool, List, [], ◌∷◌, ◌++◌, length, get_or, map, Some, All}
+use Rattle.std.proofs.Common.{◌≡◌, ℕ, ◌+◌, ◌<◌, ◌≤◌, Bool, List, [], ◌∷◌, ◌++◌, length, get_or, map, Some, All}
 use Rattle.std.proofs.Common.{AllPairs, Contains, refl, sym, ap, ◌∙◌, subst, inl, inr, arith}
 use Rattle.std.proofs.lemmas.Bool.{cases_eq}
 use Rattle.std.proofs.lemmas.List.{get_or_default}
@@ -13,7 +13,7 @@ use Rattle.ir_model.specs.Shapes.{block_of, defined_blocks, entry}
 use Rattle.ir_model.specs.Walks.{Edge, Walk, Reachable}
 use Rattle.flow_graph.specs.EdgeLists.{block_id}
 use Rattle.flow_graph.specs.TextOrder.{StandsBefore}
-use Rattle.flow_graph.proofs.FlowLemmas.{in_text_order, numbered, numbers_of_blocks}
+use Rattle.flow_graph.proofs.FlowLemmas.{numbered, numbers_of_blocks}
 use Rattle.flow_graph.proofs.WalkPaths.{walk_join}
 use Rattle.loop_regions.specs.Loops.{Loop, IsLoop}
 use Rattle.natural_loops.specs.Backward.{IsBackEdge, IsBody}

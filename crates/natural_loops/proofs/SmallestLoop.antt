@@ -1,5 +1,6 @@
 -- The smallest of some loops of which something holds.
-use Rattle.std.proofs.Common.{◌≡◌, ◌⊎◌, ℕ, Bool, true, false, List, [], ◌∷◌, ◌++◌, get_or, Option, Some, None, All, Contains}
+use Rattle.std.proofs.Common.{◌≡◌, ◌⊎◌, ℕ, Bool, true, false, List, [], ◌∷◌, ◌++◌, get_or, Option, Some, None, All}
+use Rattle.std.proofs.Common.{Contains}
 use Rattle.std.proofs.Common.{◌==◌, eqb-true, ap, slice_get, IsTrue, refl, sym, ◌∙◌, subst, inl, inr}
 use Rattle.std.proofs.lemmas.Bool.{false≢true, both_ways, eq-eqb}
 use Rattle.std.specs.Option.{option_eq}

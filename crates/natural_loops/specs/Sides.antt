@@ -1,5 +1,5 @@
 -- What stands at the edges of a loop, and what each of its turns passes.
-use Rattle.std.specs.Prelude.{◌≡◌, ◌≢◌, ◌↔◌, ℕ, List, ◌∷◌, All, AllPairs, Contains}
+use Rattle.std.specs.Prelude.{◌≢◌, ◌↔◌, ℕ, List, ◌∷◌, All, AllPairs, Contains}
 use Rattle.scev_base.specs.declared.ids.BlockId.{BlockId}
 use Rattle.ir_model.specs.declared.function.Function.{Function}
 use Rattle.ir_model.specs.Walks.{Edge, Walk, Reachable}

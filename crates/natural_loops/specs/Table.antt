@@ -1,5 +1,5 @@
 -- The table of a function's loops.
-use Rattle.std.specs.Prelude.{◌≡◌, ◌≢◌, ◌↔◌, ℕ, suc, List, [], ◌∷◌, Bool, true, false, Option, Some, None, All, AllPairs}
+use Rattle.std.specs.Prelude.{◌≡◌, ◌↔◌, ℕ, suc, List, [], ◌∷◌, Bool, true, false, Option, Some, None, All, AllPairs}
 use Rattle.std.specs.Prelude.{Contains, length, slice_get, slice_index_or}
 use Rattle.scev_base.specs.declared.ids.BlockId.{BlockId}
 use Rattle.scev_base.specs.declared.ids.LoopId.{LoopId}

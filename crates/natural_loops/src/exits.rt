@@ -1,10 +1,11 @@
 //! The exits of a loop.
 
-ghost use Rattle.std.specs.Prelude.{◌≡◌, ◌≢◌, ◌<◌, ◌↔◌, ℕ, ◌++◌, ◌∷◌, All, AllPairs, Contains, IfOk, OnOk, IsTrue, length, slice_get, take, ◌≤◌, ◌⊎◌};
+ghost use Rattle.std.specs.Prelude.{◌≡◌, ◌≢◌, ◌<◌, ◌↔◌, ℕ, All, AllPairs, Contains, IfOk, IsTrue, length, slice_get};
+ghost use Rattle.std.specs.Prelude.{take, ◌≤◌, ◌⊎◌};
 ghost use Rattle.scev_base.specs.declared.ids.BlockId.{BlockId as Block};
 ghost use Rattle.flow_graph.specs.Graph.{IsMarked};
 ghost use Rattle.ssa_check.specs.Checked.{Dominates};
-ghost use Rattle.natural_loops.specs.Sides.{AreInTextOrder, IsExit, IsPassedEachTurn, AreExits};
+ghost use Rattle.natural_loops.specs.Sides.{IsExit, IsPassedEachTurn, AreExits};
 ghost use Rattle.natural_loops.specs.Table.{IsRegionOf, loop_of};
 
 use crate::listed::listed;

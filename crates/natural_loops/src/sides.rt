@@ -1,9 +1,10 @@
 //! What stands around a loop.
 
-ghost use Rattle.std.specs.Prelude.{◌≡◌, ◌<◌, ◌↔◌, ℕ, Some, None, IfOk, length, slice_get, slice_index_or};
+ghost use Rattle.std.specs.Prelude.{◌≡◌, ◌↔◌, ℕ, Some, None, IfOk, length, slice_get, slice_index_or};
 ghost use Rattle.flow_graph.specs.Graph.{IsMarked};
 ghost use Rattle.natural_loops.specs.Sides.{IsEntering, AreInTextOrder, IsPassedEachTurn};
-ghost use Rattle.natural_loops.specs.Table.{RegionParts, AreAllLoops, AreSidesOf, IsInnermost, IsRegionOf, loop_of, SidesParts};
+ghost use Rattle.natural_loops.specs.Table.{RegionParts, AreAllLoops, AreSidesOf, IsInnermost, IsRegionOf, loop_of};
+ghost use Rattle.natural_loops.specs.Table.{SidesParts};
 
 use crate::exits::exits;
 use crate::listed::listed;

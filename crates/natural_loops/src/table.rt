@@ -68,7 +68,8 @@ impl LoopTable {
         requires { l.0 < length self.now.regions }
         ensures { (region : RegionParts) → slice_get self.now.regions l.0 ≡ Some region → result ≡ region.header }
     {
-        self.regions.as_slice()[l.0 as usize].header
+        let region = &self.regions.as_slice()[l.0 as usize];
+        region.header
     }
 
     /// Whether a loop has a block. Constant time; no memory.
@@ -85,7 +86,8 @@ impl LoopTable {
         requires { l.0 < length self.now.regions }
         ensures { (region : RegionParts) → slice_get self.now.regions l.0 ≡ Some region → result.now ≡ region.latches }
     {
-        self.regions.as_slice()[l.0 as usize].latches.as_slice()
+        let region = &self.regions.as_slice()[l.0 as usize];
+        region.latches.as_slice()
     }
 
     /// The reachable blocks outside a loop with an edge to its header, in text order.
@@ -93,7 +95,8 @@ impl LoopTable {
         requires { l.0 < length self.now.regions }
         ensures { (sides : SidesParts) → slice_get self.now.sides l.0 ≡ Some sides → result.now ≡ sides.entering }
     {
-        self.sides.as_slice()[l.0 as usize].entering.as_slice()
+        let sides = &self.sides.as_slice()[l.0 as usize];
+        sides.entering.as_slice()
     }
 
     /// The blocks of a loop with an edge out of it: in the order in which they are passed where each turn passes all of
@@ -102,7 +105,8 @@ impl LoopTable {
         requires { l.0 < length self.now.regions }
         ensures { (sides : SidesParts) → slice_get self.now.sides l.0 ≡ Some sides → result.now ≡ sides.exits }
     {
-        self.sides.as_slice()[l.0 as usize].exits.as_slice()
+        let sides = &self.sides.as_slice()[l.0 as usize];
+        sides.exits.as_slice()
     }
 
     /// Whether each turn of a loop passes a block: every walk inside the loop from its header back to it does, and no
@@ -112,7 +116,8 @@ impl LoopTable {
         ensures { (sides : SidesParts) → slice_get self.now.sides l.0 ≡ Some sides
             → result ≡ slice_index_or sides.passed b.0 false }
     {
-        self.sides.as_slice()[l.0 as usize].passed.get(b.0 as usize)
+        let sides = &self.sides.as_slice()[l.0 as usize];
+        sides.passed.get(b.0 as usize)
     }
 
     /// The innermost loop that has a block, if one has it. Constant time; no memory.

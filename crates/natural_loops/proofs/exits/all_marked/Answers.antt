@@ -1,4 +1,4 @@
-use Rattle.std.proofs.Common.{All, List, take, refl, sym, ◌∙◌, subst}
+use Rattle.std.proofs.Common.{All, List, refl, sym, ◌∙◌, subst}
 use Rattle.std.proofs.lemmas.List.{take_all}
 use Rattle.std.proofs.lemmas.List.Elements.{All-more}
 use Rattle.scev_base.specs.declared.ids.BlockId.{BlockId as Block}

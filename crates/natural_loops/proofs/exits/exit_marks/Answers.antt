@@ -1,4 +1,4 @@
-use Rattle.std.proofs.Common.{◌≡◌, ℕ, ◌+◌, ◌<◌, Bool, false, List, length, replicate, refl, sym, ap, ◌∙◌, subst, arith}
+use Rattle.std.proofs.Common.{◌≡◌, ℕ, ◌+◌, ◌<◌, Bool, false, List, length, refl, sym, ap, ◌∙◌, subst, arith}
 use Rattle.std.proofs.lemmas.Bool.{both_ways}
 use Rattle.std.proofs.lemmas.List.{length-replicate}
 use Rattle.ir_model.specs.declared.function.Function.{Function}
@@ -6,10 +6,12 @@ use Rattle.ir_model.specs.WellMade.{HasIds}
 use Rattle.natural_loops.specs.Sides.{IsExit}
 use Rattle.natural_loops.specs.Table.{RegionParts, loop_of}
 use Rattle.natural_loops.proofs.LatchMarks.{edge_labelled}
-use Rattle.natural_loops.proofs.Marking.{AreMarks, AreMarks_skip, AreMarks_more, AreMarks_all}
+use Rattle.natural_loops.proofs.Marking.{AreMarks_skip, AreMarks_more, AreMarks_all}
 use Rattle.natural_loops.proofs.ExitMarks.{exit_from, exit_marked, exit_leaves, below_cases}
 use Rattle.natural_loops.proofs.exits.exit_marks.Goals as goal
-use Rattle.natural_loops.proofs.exits.exit_marks.Goals.{then-holds+then-leaves, else-holds, else-holds-via-then-holds+else-leaves, else-holds-via-else-holds}
+use Rattle.natural_loops.proofs.exits.exit_marks.Goals.{then-holds+then-leaves, else-holds}
+use Rattle.natural_loops.proofs.exits.exit_marks.Goals.{else-holds-via-then-holds+else-leaves}
+use Rattle.natural_loops.proofs.exits.exit_marks.Goals.{else-holds-via-else-holds}
 
 pub loop-b-preserved : goal.loop-b-preserved
 loop-b-preserved c =

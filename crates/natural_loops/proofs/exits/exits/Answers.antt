@@ -1,4 +1,5 @@
-use Rattle.std.proofs.Common.{◌≡◌, ◌≢◌, ◌↔◌, ◌<◌, ◌⊎◌, ℕ, Bool, true, List, All, AllPairs, Contains, IfOk, Result, Ok, Err, length, get_or, sym, ap, ◌∙◌, subst, refl, arith}
+use Rattle.std.proofs.Common.{◌≡◌, ◌≢◌, ◌↔◌, ◌<◌, ◌⊎◌, ℕ, Bool, List, All, AllPairs, Contains, IfOk, Result, Ok, Err}
+use Rattle.std.proofs.Common.{length, get_or, sym, subst}
 use Rattle.std.proofs.lemmas.Bool.{both_ways}
 use Rattle.std.proofs.lemmas.List.Elements.{All-weaker, Contains-get_or}
 use Rattle.scev_base.specs.declared.ids.BlockId.{BlockId}
@@ -9,7 +10,7 @@ use Rattle.ir_model.specs.WellMade.{HasIds}
 use Rattle.flow_graph.specs.Graph.{IsMarked}
 use Rattle.ssa_check.specs.Checked.{Dominates}
 use Rattle.loop_regions.specs.Loops.{Loop}
-use Rattle.natural_loops.specs.Sides.{AreInTextOrder, IsExit, IsPassedEachTurn, AreExits}
+use Rattle.natural_loops.specs.Sides.{IsExit, IsPassedEachTurn, AreExits}
 use Rattle.natural_loops.specs.Table.{loop_of}
 use Rattle.natural_loops.proofs.Bodies.{entry_is_no_target}
 use Rattle.natural_loops.proofs.LatchMarks.{edge_labelled}
@@ -97,7 +98,8 @@ returns-then-all_marked c =
     let all = marked_passed f l c.args.passed.now exits c.as_slice.result.now c.as_slice.ensures c.requires.passed
     (c.all_marked.ensures.0 c.if-all_marked.true) in
     let slice = c.as_slice-then-all_marked.ensures in
-    all_three c.in_order.result (λ found. (b : BlockId) → Contains found b ↔ Contains c.as_slice-then-all_marked.result.now b)
+    all_three c.in_order.result
+    (λ found. (b : BlockId) → Contains found b ↔ Contains c.as_slice-then-all_marked.result.now b)
     (λ found. AllPairs (λ a b. a.0 ≢ b.0) found) (λ found. AllPairs (λ a b. Dominates f a.0 b.0) found)
     (λ found. AreExits f l found) c.in_order.ensures.same c.in_order.ensures.apart c.in_order.ensures.ordered
     (λ found same apart ordered.

@@ -1,5 +1,5 @@
-use Rattle.std.proofs.Common.{◌≡◌, ◌≢◌, ◌↔◌, ◌⊎◌, ℕ, ◌+◌, ◌<◌, ◌≤◌, List, [], All, AllPairs, Contains, length, get_or, take}
-use Rattle.std.proofs.Common.{slice_get, Some, Vec, Global, sym, ap, ◌∙◌, subst, arith}
+use Rattle.std.proofs.Common.{◌≡◌, ◌↔◌, ◌≤◌, List, All, Contains, length, get_or, take}
+use Rattle.std.proofs.Common.{slice_get, Some, subst}
 use Rattle.std.specs.List.{insert}
 use Rattle.std.proofs.lemmas.List.{take_all}
 use Rattle.scev_base.specs.declared.ids.BlockId.{BlockId as Block}
@@ -28,7 +28,8 @@ loop-b-preserved c =
     let is : c.insert.new.self.items ≡ insert found at b = c.in_ok-insert.ensures.items in
     record {
       same = λ x. rw is (same_insert f blocks found i at d within fits inv.same x);
-      ordered = rw is (ordered_insert f blocks found i at d within fits inv.same c.requires.chain none first inv.ordered);
+      ordered = rw is
+          (ordered_insert f blocks found i at d within fits inv.same c.requires.chain none first inv.ordered);
       apart = rw is (apart_insert f blocks found i at d within fits inv.same c.requires.apart inv.apart);
     }
 

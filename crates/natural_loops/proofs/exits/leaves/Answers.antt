@@ -1,4 +1,4 @@
-use Rattle.std.proofs.Common.{All, List, take, sym, ◌∙◌, subst}
+use Rattle.std.proofs.Common.{All, List, sym, ◌∙◌, subst}
 use Rattle.std.proofs.lemmas.Bool.{false≢true}
 use Rattle.std.proofs.lemmas.List.{take_all}
 use Rattle.std.proofs.lemmas.List.Elements.{All-more, All-contains}

@@ -1,4 +1,5 @@
-use Rattle.std.proofs.Common.{◌≡◌, ◌≢◌, ℕ, ◌+◌, ◌<◌, ◌≤◌, List, [], ◌∷◌, ◌++◌, Option, Some, None, length, get_or, sym, ap, ◌∙◌, subst, refl, inl, inr, arith, rules}
+use Rattle.std.proofs.Common.{◌≡◌, ℕ, ◌+◌, List, [], ◌∷◌, ◌++◌, Option, None, length, get_or, sym, ap, ◌∙◌, subst, inl}
+use Rattle.std.proofs.Common.{inr, arith, rules}
 use Rattle.std.specs.Option.{option_map}
 use Rattle.std.proofs.lemmas.Bool.{cases_lt}
 use Rattle.std.proofs.lemmas.List.{length_push, get_or_past}
@@ -21,7 +22,8 @@ loop-b-preserved c =
     let inv = c.loop-b.invariant in
     let mapped : c.map.result ≡ least =
     mapped id _ (λ x y says. search rules) c.smallest-least.result c.map.result c.map.ensures.cases in
-    let pushed : new ≡ old ++ least ∷ [] = c.in_ok-push.ensures.ok ∙ ap (λ (one : Option LoopId). old ++ one ∷ []) mapped in
+    let pushed : new ≡ old ++ least ∷ [] =
+    c.in_ok-push.ensures.ok ∙ ap (λ (one : Option LoopId). old ++ one ∷ []) mapped in
     let here : IsInnermost regions n least = innermost_of f regions c.requires n c.smallest-least.result
     (c.smallest-least.ensures.exact f c.requires) in
     record {

@@ -1,4 +1,5 @@
-use Rattle.std.proofs.Common.{◌≡◌, ◌≢◌, ℕ, ◌+◌, ◌<◌, List, [], ◌∷◌, ◌++◌, Option, Some, None, length, get_or, slice_get, sym, ap, ◌∙◌, subst, refl, arith, rules}
+use Rattle.std.proofs.Common.{◌≡◌, ℕ, ◌+◌, ◌<◌, List, [], ◌∷◌, ◌++◌, Option, Some, length, slice_get, sym, ap, ◌∙◌}
+use Rattle.std.proofs.Common.{subst, arith, rules}
 use Rattle.std.proofs.lemmas.Option.{same_Some, slice_get-get_or}
 use Rattle.std.proofs.lemmas.List.{length_push}
 use Rattle.scev_base.specs.declared.ids.BlockId.{BlockId}
@@ -24,7 +25,8 @@ loop-region-preserved c =
     let new : List (Option ℕ) = c.push.new.self in
     let inv = c.loop-region.invariant in
     let within : n < length regions = c.loop-region-test.true in
-    let at : slice_get regions n ≡ Some inner = slice_get-get_or regions n inner within ∙ ap Some (sym c.region-item.is) in
+    let at : slice_get regions n ≡ Some inner =
+    slice_get-get_or regions n inner within ∙ ap Some (sym c.region-item.is) in
     let h : c.region.inside.header ≡ inner.header = ap (λ (one : RegionParts). one.header) c.region.view_is in
     let least : IsSmallest regions (HasHeaderOf f regions c.requires inner) around =
     subst (λ (b : BlockId). IsSmallest regions
@@ -44,8 +46,8 @@ loop-region-preserved c =
       size = ap (λ (xs : List (Option ℕ)). length xs) pushed ∙ length_push old around
           ∙ ap (λ (k : ℕ). k + 1) inv.size;
       exact = λ k region one there is.
-          each_pushed Q old new n around pushed inv.size (λ j x at region there. inv.exact j region x there at) here k one
-          is region there;
+          each_pushed Q old new n around pushed inv.size (λ j x at region there. inv.exact j region x there at) here k
+          one is region there;
     }
 
 pub returns-clause-nest : goal.returns-clause-nest
@@ -53,8 +55,9 @@ returns-clause-nest c =
     let f : Function = c.args.c.now.function in
     let g : Function = c.function.result.now in
     let made : IsWellMade f = subst IsWellMade c.function.ensures.value c.function.ensures.well_made in
-    let never : (a : ℕ) → Edge f a (entry f.blocks) → ⊥ = subst (λ (h : Function). (a : ℕ) → Edge h a (entry h.blocks) → ⊥)
-    c.function.ensures.value (entry_is_no_target c.args.c.now.signatures g c.function.ensures.accepted) in
+    let never : (a : ℕ) → Edge f a (entry f.blocks) → ⊥ =
+    subst (λ (h : Function). (a : ℕ) → Edge h a (entry h.blocks) → ⊥) c.function.ensures.value
+    (entry_is_no_target c.args.c.now.signatures g c.function.ensures.accepted) in
     let size : length c.loop-region.parents ≡ length c.args.regions.now =
     omega (arith, c.loop-region.invariant.size, c.loop-region-test.false, c.loop-region.auto.region-index-end) in
     parents_nest f c.args.regions.now c.requires made.ids made.some_block never c.loop-region.parents size

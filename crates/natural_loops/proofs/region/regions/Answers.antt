@@ -1,5 +1,5 @@
-use Rattle.std.proofs.Common.{◌≡◌, ◌<◌, ◌≤◌, ℕ, ◌+◌, List, [], ◌∷◌, ◌++◌, length, get_or, map, AllPairs, IfSome, IfNone}
-use Rattle.std.proofs.Common.{Some, None, Option, refl, sym, ap, ◌∙◌, subst, arith}
+use Rattle.std.proofs.Common.{◌≡◌, ◌<◌, ℕ, List, [], length, get_or, map, AllPairs, IfSome, IfNone}
+use Rattle.std.proofs.Common.{Option, refl, sym, ap, ◌∙◌, subst, arith}
 use Rattle.std.proofs.lemmas.List.{get_or_default, length-map}
 use Rattle.std.proofs.Math.ListN.{get_or-map as map_at}
 use Rattle.std.proofs.lemmas.List.Elements.{All-get_or}
@@ -10,7 +10,7 @@ use Rattle.flow_graph.specs.TextOrder.{StandsBefore}
 use Rattle.flow_graph.proofs.FlowLemmas.{in_text_order, numbers_of_blocks}
 use Rattle.natural_loops.specs.Backward.{IsBackEdge, IsBackward}
 use Rattle.natural_loops.specs.Table.{RegionParts, IsRegionOf}
-use Rattle.natural_loops.proofs.Regions.{AreLoopsTo, AreLoopsTo_none, AreLoopsTo_skip, AreLoopsTo_more, AreLoopsTo_all}
+use Rattle.natural_loops.proofs.Regions.{AreLoopsTo_none, AreLoopsTo_skip, AreLoopsTo_more, AreLoopsTo_all}
 use Rattle.natural_loops.proofs.region.regions.Goals as goal
 use Rattle.natural_loops.proofs.region.regions.Goals.{in-Some+in_ok-push, in_default}
 

@@ -1,10 +1,9 @@
-use Rattle.std.proofs.Common.{ℕ, List, IfOk}
+use Rattle.std.proofs.Common.{ℕ}
 use Rattle.std.proofs.lemmas.Result.{IfOk-weaker}
-use Rattle.scev_base.specs.declared.ids.BlockId.{BlockId}
 use Rattle.ir_model.specs.declared.function.Function.{Function}
 use Rattle.flow_graph.specs.Graph.{IsMarked}
 use Rattle.natural_loops.specs.Sides.{AreInTextOrder, IsEntering}
-use Rattle.natural_loops.specs.Table.{RegionParts, loop_of}
+use Rattle.natural_loops.specs.Table.{loop_of}
 use Rattle.natural_loops.proofs.Listing.{in_order_same}
 use Rattle.natural_loops.proofs.sides.entering.Goals as goal
 

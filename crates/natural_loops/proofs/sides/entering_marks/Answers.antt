@@ -1,4 +1,4 @@
-use Rattle.std.proofs.Common.{◌≡◌, ◌<◌, ◌+◌, ℕ, Bool, true, false, List, Contains, length, get_or, replicate, take, sym, ap, ◌∙◌, subst, arith}
+use Rattle.std.proofs.Common.{◌≡◌, ◌+◌, ℕ, List, Contains, length, get_or, take, sym, ◌∙◌, subst, arith}
 use Rattle.std.proofs.lemmas.Bool.{both_ways}
 use Rattle.std.proofs.lemmas.List.{take_all}
 use Rattle.scev_base.specs.declared.ids.BlockId.{BlockId}
@@ -10,10 +10,12 @@ use Rattle.natural_loops.specs.Sides.{IsEntering}
 use Rattle.natural_loops.specs.Table.{RegionParts, loop_of}
 use Rattle.natural_loops.proofs.LatchMarks.{edge_labelled, edge_of_pred}
 use Rattle.natural_loops.proofs.Marks.{marked_contains}
-use Rattle.natural_loops.proofs.Marking.{AreMarks, AreMarks_skip, AreMarks_more, AreMarks_all}
+use Rattle.natural_loops.proofs.Marking.{AreMarks_skip, AreMarks_more, AreMarks_all}
 use Rattle.natural_loops.proofs.ExitMarks.{seen_cases}
 use Rattle.natural_loops.proofs.sides.entering_marks.Goals as goal
-use Rattle.natural_loops.proofs.sides.entering_marks.Goals.{then-reachable+then-not-holds, else-reachable, else-reachable-via-then-reachable+else-not-holds, else-reachable-via-else-reachable}
+use Rattle.natural_loops.proofs.sides.entering_marks.Goals.{then-reachable+then-not-holds, else-reachable}
+use Rattle.natural_loops.proofs.sides.entering_marks.Goals.{else-reachable-via-then-reachable+else-not-holds}
+use Rattle.natural_loops.proofs.sides.entering_marks.Goals.{else-reachable-via-else-reachable}
 
 pub set-requires : goal.set-requires
 set-requires c =

@@ -1,16 +1,18 @@
-use Rattle.std.proofs.Common.{◌≡◌, ◌<◌, ◌+◌, ℕ, Bool, true, false, List, [], ◌∷◌, ◌++◌, Option, Some, None, IfSome, IsTrue, length}
-use Rattle.std.proofs.Common.{get_or, slice_get, take, sym, ap, ◌∙◌, subst, refl, arith}
+use Rattle.std.proofs.Common.{◌≡◌, ◌<◌, ◌+◌, ℕ, false, List, [], ◌∷◌, ◌++◌, Some, length}
+use Rattle.std.proofs.Common.{get_or, slice_get, take, sym, ap, ◌∙◌, subst}
 use Rattle.std.proofs.lemmas.Bool.{both_ways, not-true, not-false}
 use Rattle.std.proofs.lemmas.Option.{slice_get-get_or}
 use Rattle.std.proofs.lemmas.List.{take_more, take_all}
 use Rattle.scev_base.specs.declared.ids.BlockId.{BlockId}
-use Rattle.ir_model.specs.declared.function.Function.{Function}
 use Rattle.flow_graph.specs.Graph.{IsMarked}
-use Rattle.natural_loops.specs.Table.{RegionParts, AreAllLoops, IsSmallest}
+use Rattle.natural_loops.specs.Table.{RegionParts}
 use Rattle.natural_loops.proofs.SmallestLoop.{IsSmallestAmong, IsSmallestAmong_skip}
-use Rattle.natural_loops.proofs.SmallestLoop.{IsSmallestAmong_more, IsSmallestAmong_kept, IsSmallestAmong_all, same_header, header_same}
+use Rattle.natural_loops.proofs.SmallestLoop.{IsSmallestAmong_more, IsSmallestAmong_kept, IsSmallestAmong_all}
+use Rattle.natural_loops.proofs.SmallestLoop.{same_header, header_same}
 use Rattle.natural_loops.proofs.smallest.smallest.Goals as goal
-use Rattle.natural_loops.proofs.smallest.smallest.Goals.{then-holds+then-ne+then-is_inside, else-holds, else-holds-via-then-holds+then-ne+else-is_inside, else-holds-via-then-holds+else-ne, else-holds-via-else-holds}
+use Rattle.natural_loops.proofs.smallest.smallest.Goals.{then-holds+then-ne+then-is_inside, else-holds}
+use Rattle.natural_loops.proofs.smallest.smallest.Goals.{else-holds-via-then-holds+then-ne+else-is_inside}
+use Rattle.natural_loops.proofs.smallest.smallest.Goals.{else-holds-via-then-holds+else-ne, else-holds-via-else-holds}
 
 pub loop-at-preserved : goal.loop-at-preserved
 loop-at-preserved c =

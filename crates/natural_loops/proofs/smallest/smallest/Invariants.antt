@@ -1,4 +1,4 @@
-use Rattle.std.proofs.Common.{◌≡◌, ◌<◌, ℕ, Some, IfSome, length, take}
+use Rattle.std.proofs.Common.{◌≡◌, ◌<◌, Some, IfSome, length, take}
 use Rattle.ir_model.specs.declared.function.Function.{Function}
 use Rattle.flow_graph.specs.Graph.{IsMarked}
 use Rattle.natural_loops.specs.Table.{AreAllLoops}
