@@ -6,24 +6,17 @@ ghost use Rattle.natural_loops.specs.Table.{RegionParts, AreAllLoops, IsInnermos
 
 use crate::region::Region;
 use crate::smallest::smallest;
-use scev_base::{BlockId, LoopId, LoopNest};
+use scev_base::{BlockId, LoopId};
 use sqlite_items::Items;
 use ssa_check::Checked;
 use std::alloc::{AllocError, Global};
 
-/// The nest of a function's loops.
-pub(crate) fn nest(alloc: Global, c: &Checked, regions: &[Region]) -> Result<LoopNest, AllocError>
-    requires { AreAllLoops c.now.function regions.now }
-    ensures size { IfOk result (λ nest. length nest ≡ length regions.now) }
-    ensures exact { IfOk result (λ nest. (k : ℕ) (region : RegionParts) (parent : Option ℕ)
-        → slice_get regions.now k ≡ Some region → slice_get nest k ≡ Some parent → IsParent regions.now region parent) }
-{
-    let parents = parents(alloc, c, regions)?;
-    Ok(LoopNest::new(parents))
-}
-
 /// For each loop the number of the smallest one around it.
-fn parents(alloc: Global, c: &Checked, regions: &[Region]) -> Result<Items<Option<u64>>, AllocError>
+pub(crate) fn parents(
+    alloc: Global,
+    c: &Checked,
+    regions: &[Region],
+) -> Result<Items<Option<u64>>, AllocError>
     requires { AreAllLoops c.now.function regions.now }
     ensures size { IfOk result (λ parents. length parents ≡ length regions.now) }
     ensures exact { IfOk result (λ parents. (k : ℕ) (region : RegionParts) (parent : Option ℕ)

@@ -3,7 +3,7 @@
 ghost use Rattle.std.specs.Prelude.{◌≡◌, ◌<◌, false, Some, None, IfOk, length, slice_get, slice_index_or};
 ghost use Rattle.natural_loops.specs.Table.{RegionParts, SidesParts, AreLoopsOf};
 
-use crate::nest::{innermost, nest};
+use crate::nest::{innermost, parents};
 use crate::region::{Region, regions};
 use crate::sides::{Sides, all_sides};
 use scev_base::{BlockId, LoopId, LoopNest};
@@ -19,6 +19,7 @@ pub struct LoopTable {
     regions: Items<Region>,
     sides: Items<Sides>,
     nest: LoopNest,
+    parents: Items<Option<u64>>,
     innermost: Items<Option<LoopId>>,
 }
 
@@ -35,7 +36,7 @@ impl Model for LoopTable {
       innermost = table.innermost;
     } };
 
-    ghost invariant = { λ table. length table.sides ≡ length table.regions };
+    ghost invariant = { λ table. (length table.sides ≡ length table.regions) × (table.parents ≡ table.nest) };
 }
 
 /// The natural loops of a function that is accepted. It takes a search against the edges for each loop, and for each
@@ -44,13 +45,15 @@ pub fn loops(alloc: Global, c: &Checked) -> Result<LoopTable, AllocError>
     ensures { IfOk result (λ table. AreLoopsOf c.now.function table) }
 {
     let regions = regions(alloc, c)?;
-    let nest = nest(alloc, c, regions.as_slice())?;
+    let parents = parents(alloc, c, regions.as_slice())?;
+    let nest = LoopNest::new(Items::from_slice(alloc, parents.as_slice())?);
     let innermost = innermost(alloc, c, regions.as_slice())?;
     let sides = all_sides(alloc, c, regions.as_slice(), innermost.as_slice())?;
     Ok(LoopTable {
         regions,
         sides,
         nest,
+        parents,
         innermost,
     })
 }
@@ -61,6 +64,13 @@ impl LoopTable {
         ensures { result.now ≡ self.now.parents }
     {
         &self.nest
+    }
+
+    /// For each loop the number of the one around it.
+    pub fn parents(&self) -> &[Option<u64>]
+        ensures { result.now ≡ self.now.parents }
+    {
+        self.parents.as_slice()
     }
 
     /// The header of a loop.
