@@ -1,11 +1,10 @@
 -- Lists with the same phis in progress have cuts with the same ones, and as many.
-use Rattle.std.proofs.Common.{◌≡◌, ◌≢◌, ◌↔◌, ◌==◌, ℕ, zero, suc, ◌<◌, ◌≤◌, List, ◌∷◌, length, AllPairs, Contains, refl, subst, inl, inr, arith}
+use Rattle.std.proofs.Common.{◌≡◌, ◌≢◌, ◌↔◌, ℕ, zero, suc, List, ◌∷◌, length, AllPairs, Contains, arith}
 use Rattle.std.specs.Cmp.{nat_eq_equiv}
-use Rattle.std.specs.Set.{is_member}
 use Rattle.std.proofs.lemmas.Bool.Decides.{Decides-eqb, Decides-like, same_from_decides}
 use Rattle.std.proofs.lemmas.Map.Made.{IsDistinct-from_AllPairs, is_member-Decides, length-from_same_keys}
 use Rattle.value_exprs.specs.View.{View}
-use Rattle.value_exprs.specs.Dependence.{AreMutual, IsCut}
+use Rattle.value_exprs.specs.Dependence.{IsCut}
 use Rattle.value_exprs.specs.Exprs.{KeepsName, in_progress, large_group, fifth}
 
 -- two lists have the same members

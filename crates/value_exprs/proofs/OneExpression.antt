@@ -1,6 +1,6 @@
--- A value has one expression while some phis are in progress, in whatever order they are listed, and so has an operand at
--- a place.
-use Rattle.std.proofs.Common.{◌≡◌, ℕ, false, List, ◌∷◌, Option, Some, refl, subst}
+-- A value has one expression while some phis are in progress, in whatever order they are listed, and so has an operand
+-- at a place.
+use Rattle.std.proofs.Common.{◌≡◌, ℕ, false, List, ◌∷◌, Option, Some, refl}
 use Rattle.scev_base.specs.declared.ids.LoopId.{LoopId}
 use Rattle.scev_base.specs.declared.ids.ValueId.{ValueId}
 use Rattle.ir_model.specs.declared.op.CastOp.{CastOp}
