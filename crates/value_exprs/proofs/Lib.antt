@@ -1,3 +1,4 @@
 pub mod OneCut
 pub mod OneAdvance
 pub mod OneExpression
+pub mod MutualPhis

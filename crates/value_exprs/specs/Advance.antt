@@ -1,9 +1,10 @@
 -- How a phi goes on in a turn of its loop.
-use Rattle.std.specs.Prelude.{◌≡◌, ◌⊎◌, ℕ, ◌==◌, ◌&&◌, Bool, true, false, if◌then◌else◌, List, [], ◌∷◌, Option, Some, None}
+use Rattle.std.specs.Prelude.{◌≡◌, ◌⊎◌, ℕ, ◌==◌, ◌&&◌, Bool, false, if◌then◌else◌, List, [], ◌∷◌, Option, Some, None}
 use Rattle.scev_base.specs.declared.ids.LoopId.{LoopId}
 use Rattle.scev_tree.specs.declared.kind.Kind.{Kind}
 use Rattle.scev_tree.specs.declared.kind.Kind.TheVariants as kind
-use Rattle.scev_tree.specs.Tree.{Tree, Terms, Factors, Parts, polynomial, no_terms, term, no_factors, factor, atom, parts_of}
+use Rattle.scev_tree.specs.Tree.{Tree, Terms, Factors, Parts, polynomial, no_terms, term, no_factors, factor, atom}
+use Rattle.scev_tree.specs.Tree.{parts_of}
 use Rattle.scev_tree.specs.Invariant.{IsInvariant}
 use Rattle.scev_arena.specs.Limits.{is_in}
 use Rattle.scev_forms.specs.Atoms.{alone}
@@ -26,8 +27,8 @@ abbrev pub rest_of : ℕ → Terms → Option Terms
 rest_of v no_terms = None
 rest_of v (term factors n terms) = if is_own v factors n then Some terms else behind factors n (rest_of v terms)
 
--- In each turn of a loop of a nest a phi's operand of w bits adds to it what is invariant in the loop, or a recurrence of
--- the loop. The parts behind the start of the phi's recurrence are that, or that one's.
+-- In each turn of a loop of a nest a phi's operand of w bits adds to it what is invariant in the loop, or a recurrence
+-- of the loop. The parts behind the start of the phi's recurrence are that, or that one's.
 pub record IsAdvance (parents : List (Option ℕ)) (l : LoopId) (v w : ℕ) (next : Tree) (steps : List Tree) : Type 0 where
   pub all : Terms
   pub rest : Terms

@@ -1,5 +1,5 @@
 -- The expression of a value while phis of headers are in progress.
-use Rattle.std.specs.Prelude.{◌≡◌, ℕ, ◌<◌, ◌≤◌, List, ◌∷◌, length, Contains, Option, Some}
+use Rattle.std.specs.Prelude.{◌≡◌, ℕ, ◌<◌, ◌≤◌, false, List, ◌∷◌, length, Contains, Option, Some}
 use Rattle.scev_base.specs.declared.ids.ValueId.{ValueId}
 use Rattle.scev_base.specs.declared.ids.LoopId.{LoopId}
 use Rattle.ir_model.specs.declared.op.CastOp.{CastOp}
@@ -14,8 +14,8 @@ use Rattle.value_exprs.specs.Dependence.{IsCut, IsGroup}
 use Rattle.value_exprs.specs.Steps.{formed_pair, formed_cast, or_leaf, formed_or_leaf}
 use Rattle.value_exprs.specs.Advance.{IsAdvance}
 
--- a phi with these ones in progress keeps its own name: it is in progress itself, its group has more than 12 phis, or it
--- would be the fifth
+-- a phi with these ones in progress keeps its own name: it is in progress itself, its group has more than 12 phis, or
+-- it would be the fifth
 pub data KeepsName (view : View) (v : ℕ) (cut : List ℕ) : Type 0 where
   in_progress : Contains cut v → KeepsName view v cut
   large_group : (group : List ℕ) → IsGroup view v group → 12 < length group → KeepsName view v cut

@@ -1,14 +1,11 @@
 -- How expressions of operands give those of values.
-use Rattle.std.specs.Prelude.{◌≡◌, ◌≢◌, ◌⊎◌, ℕ, ◌-◌, ◌^◌, ◌==◌, nat_lt, if◌then◌else◌, Bool, true, false, List, [], ◌∷◌, Option, Some, None}
-use Rattle.scev_base.specs.declared.ids.LoopId.{LoopId}
+use Rattle.std.specs.Prelude.{ℕ, ◌-◌, ◌^◌, ◌==◌, nat_lt, if◌then◌else◌, Bool, false, List, Option, Some, None}
 use Rattle.ir_model.specs.declared.op.CastOp.{CastOp}
 use Rattle.ir_model.specs.declared.op.CastOp.TheVariants as cast
 use Rattle.scev_tree.specs.declared.kind.Kind.TheVariants as kind
-use Rattle.scev_tree.specs.Tree.{Tree, Terms, Factors, Atom, Parts, polynomial, no_terms, term, no_factors, factor, atom}
-use Rattle.scev_tree.specs.Tree.{width_of, constant, trees_of}
-use Rattle.scev_tree.specs.Invariant.{IsInvariant}
+use Rattle.scev_tree.specs.Tree.{Tree, constant}
 use Rattle.scev_forms.specs.Outcome.{Outcome, Done, Refused, next}
-use Rattle.scev_forms.specs.Atoms.{number_of, alone}
+use Rattle.scev_forms.specs.Atoms.{number_of}
 use Rattle.scev_forms.specs.Sums.{tree_sum, tree_product}
 use Rattle.scev_forms.specs.Casts.{truncated, extended_when}
 use Rattle.scev_forms.specs.Quotients.{tree_quotient}

@@ -1,5 +1,5 @@
 -- What the classification asks of a function, and of its loops.
-use Rattle.std.specs.Prelude.{◌≡◌, ℕ, ◌==◌, Bool, true, false, List, [], ◌∷◌, Option, Some, None, slice_get, slice_index_or}
+use Rattle.std.specs.Prelude.{ℕ, Bool, List, [], Option, Some, None, slice_index_or}
 use Rattle.scev_base.specs.declared.ids.BlockId.{BlockId}
 use Rattle.scev_base.specs.declared.ids.LoopId.{LoopId}
 use Rattle.scev_base.specs.declared.ids.ValueId.{ValueId}
@@ -10,9 +10,9 @@ use Rattle.value_view.specs.declared.reading.Reading.{Reading}
 use Rattle.value_view.specs.declared.row.Row.{Row}
 use Rattle.value_view.specs.Givens.{bare_row}
 
--- For each value its row, what it reads, and whether it is a phi in the header of a loop with one operand from outside and
--- one on all back edges; for each block the innermost loop; for each loop the one around it, and the registers that the
--- conditions of its exits read.
+-- For each value its row, what it reads, and whether it is a phi in the header of a loop with one operand from outside
+-- and one on all back edges; for each block the innermost loop; for each loop the one around it, and the registers that
+-- the conditions of its exits read.
 pub record View : Type 0 where
   pub rows : List Row
   pub reads : List (List Reading)

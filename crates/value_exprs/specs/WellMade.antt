@@ -1,5 +1,5 @@
 -- What holds of the view of a function that is accepted.
-use Rattle.std.specs.Prelude.{◌≡◌, ◌≢◌, ℕ, ◌<◌, ◌≤◌, ◌^◌, All, Contains, length, Option, Some, None, slice_get}
+use Rattle.std.specs.Prelude.{◌≡◌, ℕ, ◌<◌, ◌≤◌, ◌^◌, All, Contains, length, Option, Some, None}
 use Rattle.scev_base.specs.declared.ids.LoopId.{LoopId}
 use Rattle.scev_base.specs.declared.ids.ValueId.{ValueId}
 use Rattle.scev_base.specs.Nest.{IsNest}
@@ -8,14 +8,13 @@ use Rattle.ir_model.specs.declared.op.CastOp.TheVariants as cast
 use Rattle.value_view.specs.declared.reading.Reading.{Reading}
 use Rattle.value_view.specs.declared.source.Source.{Source}
 use Rattle.value_view.specs.declared.source.Source.TheVariants.{Number, Register}
-use Rattle.value_view.specs.declared.given.Pair.{Pair}
 use Rattle.value_view.specs.declared.given.Given.{Given}
 use Rattle.value_view.specs.declared.given.Given.TheVariants as given
 use Rattle.value_exprs.specs.View.{View, row_of, reads_of, conditions_of, home, outside, number_of_loop}
 use Rattle.value_exprs.specs.Dependence.{IsTurn}
 
--- an operand of w bits of a value, read at a place: a number below 2^w, or a register of that width, that the value reads
--- there
+-- an operand of w bits of a value, read at a place: a number below 2^w, or a register of that width, that the value
+-- reads there
 abbrev pub IsSource : View → ℕ → ℕ → Option ℕ → Source → Type 0
 IsSource view v w place (Number n) = n < 2 ^ w
 IsSource view v w place (Register x) = (x.0 < length view.rows) × ((row_of view x.0).bits ≡ w)
@@ -36,8 +35,8 @@ AreCastWidths cast.Trunc from to = to ≤ from
 abbrev pub IsWidth : ℕ → Type 0
 IsWidth w = (1 ≤ w) × (w ≤ 64)
 
--- What gives a value is read at the value's block, and at the edges into a header; each operand but that of the back edges
--- has a lower rank.
+-- What gives a value is read at the value's block, and at the edges into a header; each operand but that of the back
+-- edges has a lower rank.
 abbrev pub IsWellGiven : View → (ℕ → ℕ) → ℕ → Given → Type 0
 IsWellGiven view rank v given.Opaque = Unit {0}
 IsWellGiven view rank v (given.Pair p left right) = IsWidth (row_of view v).bits

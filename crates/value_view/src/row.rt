@@ -6,8 +6,8 @@ ghost use Rattle.value_view.specs.Givens.{bare_row};
 use crate::given::Given;
 use scev_base::BlockId;
 
-/// A value: the block in which it is defined, None where no instruction defines it; how many bits it has, 0 where it is no
-/// integer; what gives it; and the flags of the `add`, `sub`, `mul` or `shl` that does.
+/// A value: the block in which it is defined, None where no instruction defines it; how many bits it has, 0 where it is
+/// no integer; what gives it; and the flags of the `add`, `sub`, `mul` or `shl` that does.
 #[derive(Clone, Copy, Debug, PartialEq, Eq)]
 pub struct Row {
     pub block: Option<BlockId>,
