@@ -1,6 +1,6 @@
 //! The table of a function's loops.
 
-ghost use Rattle.std.specs.Prelude.{◌≡◌, ◌<◌, false, Some, None, IfOk, length, slice_get, slice_index_or};
+ghost use Rattle.std.specs.Prelude.{◌≡◌, ◌<◌, false, Some, None, IfOk, length, slice_get, slice_index_or, option_map};
 ghost use Rattle.natural_loops.specs.Table.{RegionParts, SidesParts, AreLoopsOf};
 
 use crate::nest::{innermost, parents};
@@ -71,6 +71,23 @@ impl LoopTable {
         ensures { result.now ≡ self.now.parents }
     {
         self.parents.as_slice()
+    }
+
+    /// The loop around a loop, None where it is in no other. Constant time; no memory.
+    pub fn around(&self, l: LoopId) -> Option<LoopId>
+        ensures { result ≡ option_map (λ k. record { 0 = k }) (slice_index_or self.now.parents l.0 None) }
+    {
+        match self.parents.get(l.0 as usize) {
+            Some(Some(parent)) => Some(LoopId(*parent)),
+            _ => None,
+        }
+    }
+
+    /// For the number of each label the innermost loop that has the block.
+    pub fn innermost_loops(&self) -> &[Option<LoopId>]
+        ensures { result.now ≡ self.now.innermost }
+    {
+        self.innermost.as_slice()
     }
 
     /// The header of a loop.

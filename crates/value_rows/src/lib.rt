@@ -1,7 +1,12 @@
-//! What gives each value of a function, as far as expressions are formed of it.
+//! The view of a function: what gives each value, what it reads, and what the classification asks of the loops.
 #![tactic(auto)]
 
+mod conditions;
 mod header_phi;
+mod reads;
+mod registers;
+mod turns;
 mod values;
+mod view;
 
-pub use values::rows;
+pub use view::view;
