@@ -1,0 +1,3 @@
+pub mod RunTrails
+pub mod SinceEntered
+pub mod UseTrails
