@@ -77,9 +77,19 @@ impl LoopTable {
     pub fn around(&self, l: LoopId) -> Option<LoopId>
         ensures { result ≡ option_map (λ k. record { 0 = k }) (slice_index_or self.now.parents l.0 None) }
     {
+        match self.parent(l) {
+            Some(parent) => Some(LoopId(parent)),
+            None => None,
+        }
+    }
+
+    /// The number of the loop around a loop.
+    fn parent(&self, l: LoopId) -> Option<u64>
+        ensures { result ≡ slice_index_or self.now.parents l.0 None }
+    {
         match self.parents.get(l.0 as usize) {
-            Some(Some(parent)) => Some(LoopId(*parent)),
-            _ => None,
+            Some(parent) => *parent,
+            None => None,
         }
     }
 
