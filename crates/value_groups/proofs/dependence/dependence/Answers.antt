@@ -5,7 +5,7 @@ use Rattle.value_exprs.specs.WellMade.{IsListed}
 use Rattle.value_groups.proofs.Depending.{AreReads, AreRowsBelow, AreRowsBelow_more, IsDependence_all, IsClosed_all}
 use Rattle.value_groups.proofs.Depending.{row_is}
 use Rattle.value_groups.proofs.dependence.dependence.Goals as goal
-use Rattle.value_groups.proofs.dependence.dependence.Goals.{After-as_slice}
+use Rattle.value_groups.proofs.dependence.dependence.Goals.{After-as_slice, After-loop-reads}
 
 -- the rows that the loop goes over
 all : (c : After-as_slice) → c.as_slice-reads-items.result.now ≡ c.args.view.now.reads
@@ -33,8 +33,20 @@ loop-reads-preserved c =
     rw c.in_ok-push.ensures.items
     (AreRowsBelow_more view c.loop-reads.graph.items c.loop-reads.reads-index now is c.loop-reads.invariant)
 
+-- the rows of all values
+finished : (c : After-loop-reads) → AreRowsBelow c.args.view.now c.loop-reads.graph.items (length c.args.view.now.reads)
+finished c =
+    let view : View = c.args.view.now in
+    let listed : List (List Reading) = c.as_slice-reads-items.result.now in
+    let all : listed ≡ view.reads = c.as_slice-reads-items.ensures ∙ ap (λ (one : View). one.reads) c.view.view_is in
+    let end : c.loop-reads.reads-index ≡ length view.reads =
+    omega (arith, ap (λ (rows : List (List Reading)). length rows) all, c.loop-reads.auto.reads-index-end) in
+    subst (AreRowsBelow view c.loop-reads.graph.items) end c.loop-reads.invariant
+
 pub returns-clause-graph : goal.returns-clause-graph
-returns-clause-graph c = ?
+returns-clause-graph c = IsDependence_all c.args.view.now c.loop-reads.graph.items c.requires (finished c)
 
 pub returns-clause-closed : goal.returns-clause-closed
-returns-clause-closed c = ?
+returns-clause-closed c =
+    IsClosed_all c.args.view.now c.loop-reads.graph.items c.requires
+    (IsDependence_all c.args.view.now c.loop-reads.graph.items c.requires (finished c))
