@@ -1,5 +1,5 @@
 -- The expression of a value while phis of headers are in progress.
-use Rattle.std.specs.Prelude.{◌≡◌, ℕ, ◌<◌, ◌≤◌, List, ◌∷◌, length, Contains, Option, Some}
+use Rattle.std.specs.Prelude.{◌≡◌, ℕ, ◌<◌, ◌≤◌, false, List, ◌∷◌, length, Contains, Option, Some}
 use Rattle.scev_base.specs.declared.ids.ValueId.{ValueId}
 use Rattle.scev_base.specs.declared.ids.LoopId.{LoopId}
 use Rattle.ir_model.specs.declared.op.CastOp.{CastOp}

@@ -1,7 +1,7 @@
 -- Phis of a component among the first values.
-use Rattle.std.proofs.Common.{◌≡◌, ◌≢◌, ◌==◌, ◌&&◌, ℕ, zero, suc, ◌+◌, ◌<◌, ◌≤◌, Bool, true, false, cond, List, []}
-use Rattle.std.proofs.Common.{◌∷◌, ◌++◌, length, get_or, AllPairs, Contains, refl, sym, ap, ◌∙◌, subst, inl, inr, add-one}
-use Rattle.std.proofs.Common.{arith}
+use Rattle.std.proofs.Common.{◌≡◌, ◌≢◌, ℕ, zero, suc, ◌+◌, ◌<◌, ◌≤◌, Bool, true, false, cond, List, []}
+use Rattle.std.proofs.Common.{◌∷◌, ◌++◌, length, get_or, AllPairs, Contains, refl, sym, ap, ◌∙◌, subst, inl, inr}
+use Rattle.std.proofs.Common.{add-one, arith}
 use Rattle.std.proofs.lemmas.Bool.{cases_eq}
 use Rattle.std.proofs.lemmas.List.{append-nil, length-append, length_push, get_or_append_left, get_or_push}
 use Rattle.std.proofs.lemmas.List.Elements.{Contains-append_left, Contains-append_right, Contains-append_cases}
@@ -72,8 +72,8 @@ module _ (turns : List Bool) (components : List ℕ) (c : ℕ) where
   phis_apart (suc n) =
       apart_with (is_phi n) (phis n) n (phis_apart n)
       (λ k d within e.
-          let low = (phis_only n (get_or (phis n) k d) (Contains-get_or (phis n) k d within)).0 in
-          absurd (omega (arith, low, e)))
+      let low = (phis_only n (get_or (phis n) k d) (Contains-get_or (phis n) k d within)).0 in
+      absurd (omega (arith, low, e)))
 
   phis_next : (n : ℕ) → length (phis (suc n)) ≡ length (phis n) + cond (is_phi n) 1 0
   unfolding phis_of
@@ -117,7 +117,7 @@ pub record AreCountedBelow (turns : List Bool) (components places : List ℕ) (n
   pub each : (v : ℕ) → v < n → get_or places v 0 ≡ length (phis_of turns components (get_or components v 0) v)
 
 pub AreCountedBelow_none : (turns : List Bool) (components : List ℕ) → AreCountedBelow turns components [] 0
-AreCountedBelow_none turns components = record { size = refl; each = λ v low. absurd (omega (arith, low)); }
+AreCountedBelow_none turns components = record { size = refl; each = λ v low. absurd (omega (arith, low)) }
 
 pub AreCountedBelow_more : (turns : List Bool) (components places : List ℕ) (n place : ℕ)
     → place ≡ length (phis_of turns components (get_or components n 0) n)

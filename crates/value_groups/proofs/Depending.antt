@@ -1,5 +1,5 @@
 -- Rows of what instructions read.
-use Rattle.std.proofs.Common.{◌≡◌, ◌↔◌, ℕ, ◌+◌, ◌<◌, ◌⊎◌, ◌++◌, List, [], ◌∷◌, length, get_or, Contains, None}
+use Rattle.std.proofs.Common.{◌≡◌, ◌↔◌, ℕ, ◌+◌, ◌<◌, ◌++◌, List, [], ◌∷◌, length, get_or, Contains, None}
 use Rattle.std.proofs.Common.{refl, sym, ap, ◌∙◌, subst, inl, inr, arith}
 use Rattle.std.proofs.lemmas.Bool.{cases_eq, cases_lt}
 use Rattle.std.proofs.lemmas.List.{get_or_append_left, get_or_past, get_or_push, get_or_read, length_push}
@@ -75,7 +75,7 @@ pub record AreRowsBelow (view : View) (graph : List (List ℕ)) (n : ℕ) : Type
   pub rows : (v : ℕ) → v < n → AreReads view (reads_of view v) (get_or graph v [])
 
 pub AreRowsBelow_none : (view : View) → AreRowsBelow view [] 0
-AreRowsBelow_none view = record { size = refl; rows = λ v below. absurd (omega (arith, below)); }
+AreRowsBelow_none view = record { size = refl; rows = λ v below. absurd (omega (arith, below)) }
 
 pub AreRowsBelow_more : (view : View) (graph : List (List ℕ)) (n : ℕ) (row : List ℕ)
     → AreReads view (reads_of view n) row → AreRowsBelow view graph n → AreRowsBelow view (graph ++ row ∷ []) (n + 1)

@@ -1,6 +1,6 @@
 -- Groups, by the numbers of components.
-use Rattle.std.proofs.Common.{◌≡◌, ◌==◌, ◌↔◌, ℕ, ◌<◌, ◌≤◌, Bool, true, false, List, length, get_or, map, Contains, refl, sym}
-use Rattle.std.proofs.Common.{ap, ◌∙◌, subst, inl, inr, arith}
+use Rattle.std.proofs.Common.{◌≡◌, ◌==◌, ◌↔◌, ℕ, ◌<◌, Bool, true, false, List, length, get_or, map, refl, sym}
+use Rattle.std.proofs.Common.{ap, ◌∙◌, inl, inr, arith}
 use Rattle.std.proofs.lemmas.Bool.{and_from, and_parts, cases_lt, eq-eqb, eqb-true}
 use Rattle.std.proofs.lemmas.List.{get_or-map, get_or_past, length-map}
 use Rattle.flow_graph.specs.Graph.{Arc, Path}
@@ -49,7 +49,7 @@ module _ (view : View) (graph : List (List ℕ)) (components places sizes : List
       let both = are.same v x (omega (arith, low, nodes)) (omega (arith, low', nodes)) in (
         (λ e.
             let paths = both.0 e in
-            record { there = there paths.0; back = there paths.1; }),
+            record { there = there paths.0; back = there paths.1 }),
         (λ paths. both.1 (back paths.there, back paths.back)),
       )
 
@@ -87,7 +87,7 @@ module _ (view : View) (graph : List (List ℕ)) (components places sizes : List
       let more = phis_behind view.turns components (of p) p q (is_own p turn) less in
       omega (arith, first, second, moved, more)
 
-  pub groups_are : AreGroupsOf view (record { components = components; places = places; sizes = sizes; })
+  pub groups_are : AreGroupsOf view (record { components = components; places = places; sizes = sizes })
   groups_are = record {
     lengths = (
       size,

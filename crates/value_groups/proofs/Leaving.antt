@@ -1,5 +1,5 @@
 -- Loops that an operand leaves, from the innermost one that holds its definition on.
-use Rattle.std.proofs.Common.{◌≡◌, ◌↔◌, ℕ, zero, suc, ◌+◌, ◌<◌, ◌⊎◌, ◌++◌, List, [], ◌∷◌, length, get_or, map}
+use Rattle.std.proofs.Common.{◌≡◌, ◌↔◌, ℕ, zero, suc, ◌<◌, ◌⊎◌, ◌++◌, List, [], ◌∷◌, length, map}
 use Rattle.std.proofs.Common.{Contains, Option, Some, None, refl, sym, ap, ◌∙◌, subst, inl, inr, arith}
 use Rattle.std.proofs.lemmas.Bool.{cases_eq}
 use Rattle.std.proofs.lemmas.Option.{slice_get-get_or}
@@ -81,7 +81,8 @@ lower view l (Some p) nested is =
 
 pub height_at_falls : (view : View) (l : LoopId) (next : Option LoopId) → IsNest view.parents
     → l.0 < length view.parents → number_of_loop next ≡ outside view l → height_at view next < height_at view (Some l)
-height_at_falls view l next nested within is = lower view l next nested (around_is view l (number_of_loop next) within is)
+height_at_falls view l next nested within is =
+    lower view l next nested (around_is view l (number_of_loop next) within is)
 
 -- ---- the loops up to one
 

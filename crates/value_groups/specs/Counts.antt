@@ -1,5 +1,6 @@
 -- How many phis of a component come before a value.
-use Rattle.std.specs.Prelude.{◌≡◌, ◌==◌, ◌&&◌, ℕ, zero, suc, ◌<◌, Bool, false, List, [], ◌∷◌, ◌++◌, length, if◌then◌else◌, slice_index_or}
+use Rattle.std.specs.Prelude.{◌≡◌, ◌==◌, ◌&&◌, ℕ, zero, suc, ◌<◌, Bool, false, List, [], ◌∷◌, ◌++◌, length}
+use Rattle.std.specs.Prelude.{if◌then◌else◌, slice_index_or}
 
 -- whether a value is a phi of a component, where these are the values that count as phis, and these the components
 abbrev pub is_phi_of : List Bool → List ℕ → ℕ → ℕ → Bool

@@ -1,7 +1,7 @@
 //! How many phis components have.
 
-ghost use Rattle.std.specs.Prelude.{◌≡◌, ◌==◌, ◌&&◌, ◌+◌, ◌<◌, ◌^◌, ℕ, None, if◌then◌else◌, length, map, nat_eq, unwrap_or};
-ghost use Rattle.std.specs.Prelude.{IfOk, OnOk};
+ghost use Rattle.std.specs.Prelude.{◌≡◌, ◌==◌, ◌&&◌, ◌+◌, ◌<◌, ◌^◌, ℕ, None, if◌then◌else◌, length, map, nat_eq};
+ghost use Rattle.std.specs.Prelude.{unwrap_or, IfOk, OnOk};
 ghost use Rattle.indexmap.specs.IndexMap.{get};
 ghost use Rattle.value_groups.specs.Counts.{AreCounted, phis_of};
 

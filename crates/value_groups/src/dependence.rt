@@ -15,8 +15,9 @@ use std::alloc::{AllocError, Global};
 use value_exprs::FunctionView;
 use value_view::Reading;
 
-/// The graph with an arc from each value to each one on which it depends. It takes time linear in the readings and, for
-/// each of them, in the loops that it leaves and in what their conditions read.
+/// The graph with an arc from each value to each one on which it depends. It takes time linear in the readings, in what
+/// the conditions of each loop read that a reading leaves, and for each of those loops and one more in how many loops
+/// hold the reading's place.
 pub(crate) fn dependence(
     alloc: Global,
     view: &FunctionView,

@@ -13,8 +13,8 @@ use std::alloc::{AllocError, Global};
 use std::marker::Model;
 use value_exprs::FunctionView;
 
-/// For each value the number of its component, where two values have one number exactly if each depends on the other; its
-/// place in its group, where it is a phi that counts for one; and how many phis its group has.
+/// For each value the number of its component, where two values have one number exactly if each depends on the other;
+/// its place in its group, where it is a phi that counts for one; and how many phis its group has.
 #[derive(Drop)]
 pub struct Groups {
     pub components: Items<usize>,
@@ -34,8 +34,8 @@ impl Model for Groups {
     } };
 }
 
-/// The groups of a function's values, in time linear in what the values depend on. The error comes only where there is no
-/// memory.
+/// The groups of a function's values, in the time that it takes to list what each of them depends on, and linear in
+/// that list. The error comes only where there is no memory.
 pub fn groups_of(alloc: Global, view: &FunctionView) -> Result<Groups, AllocError>
     requires { IsWellMade view.now }
     ensures { IfOk result (λ groups. AreGroupsOf view.now groups) }

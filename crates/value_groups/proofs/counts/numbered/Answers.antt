@@ -1,10 +1,6 @@
-use Rattle.std.proofs.Common.{◌≡◌, ◌==◌, ◌&&◌, ◌+◌, ◌<◌, ◌≤◌, ℕ, Bool, false, List, cond, length, get_or, nat_eq, sym, ap}
+use Rattle.std.proofs.Common.{◌==◌, ◌&&◌, ◌+◌, ℕ, Bool, false, List, cond, get_or, sym, ap}
 use Rattle.std.proofs.Common.{◌∙◌, arith}
-use Rattle.std.specs.Option.{unwrap_or}
-use Rattle.indexmap.specs.IndexMap.{get}
-use Rattle.value_groups.specs.Counts.{is_phi_of, phis_of}
 use Rattle.value_groups.proofs.Counting.{phis_more, phis_most, length_none, AreCountedBelow_none, AreCountedBelow_more}
-use Rattle.value_groups.proofs.Counting.{AreCounted_all}
 use Rattle.value_groups.proofs.counts.numbered.Goals as goal
 
 pub loop-v-init : goal.loop-v-init

@@ -1,7 +1,7 @@
-use Rattle.std.proofs.Common.{◌≡◌, take, ℕ, nat_eq, length}
+use Rattle.std.proofs.Common.{◌≡◌, ℕ, nat_eq, length}
 use Rattle.std.specs.Option.{unwrap_or}
 use Rattle.indexmap.specs.IndexMap.{get}
-use Rattle.value_groups.specs.Counts.{AreCounted, phis_of}
+use Rattle.value_groups.specs.Counts.{phis_of}
 use Rattle.value_groups.proofs.Counting.{AreCountedBelow}
 use Rattle.value_groups.proofs.counts.numbered.Given as goal
 

@@ -1,9 +1,10 @@
-use Rattle.std.proofs.Common.{◌≡◌, ◌<◌, ◌++◌, ℕ, List, [], length, get_or, Option, Some, None, refl, sym, ap, ◌∙◌, subst, arith}
+use Rattle.std.proofs.Common.{◌≡◌, ◌<◌, ◌++◌, ℕ, List, [], length, get_or, Option, Some, None, sym, ap, ◌∙◌}
+use Rattle.std.proofs.Common.{subst, arith}
 use Rattle.std.proofs.lemmas.Bool.{both_ways}
 use Rattle.std.proofs.lemmas.List.{append_assoc, append-nil, get_or_read}
 use Rattle.scev_base.specs.declared.ids.LoopId.{LoopId}
 use Rattle.scev_base.specs.declared.ids.ValueId.{ValueId}
-use Rattle.value_exprs.specs.View.{View, Holds, Leaves, conditions_of, home, number_of_loop}
+use Rattle.value_exprs.specs.View.{View, Holds, conditions_of, number_of_loop}
 use Rattle.value_exprs.specs.WellMade.{IsListed}
 use Rattle.value_groups.proofs.Leaving.{IsLeftUpTo, IsLeftUpTo_none, IsLeftUpTo_more, numbers, all_left, none_beyond}
 use Rattle.value_groups.proofs.Leaving.{around_listed, height_at_falls}
@@ -50,9 +51,9 @@ loop-at-preserved c =
       more = (
         more ++ numbers (conditions_of view l.0),
         c.in_ok-note_all.ensures
-        ∙ (ap (λ (xs : List ℕ). xs ++ numbers named) c.loop-at.invariant.more.1
-        ∙ (append_assoc before more (numbers named)
-        ∙ ap (λ (xs : List ValueId). before ++ (more ++ numbers xs)) row)),
+            ∙ (ap (λ (xs : List ℕ). xs ++ numbers named) c.loop-at.invariant.more.1
+            ∙ (append_assoc before more (numbers named)
+            ∙ ap (λ (xs : List ValueId). before ++ (more ++ numbers xs)) row)),
         IsLeftUpTo_more view v place l next more (within c) c.around-at.ensures apart to,
       );
     }
@@ -60,7 +61,8 @@ loop-at-preserved c =
 pub loop-at-smaller : goal.loop-at-smaller
 loop-at-smaller c =
     let view : View = c.args.view.now in
-    rw c.in-Some.is (height_at_falls view c.in-Some.l c.around-at.result c.requires.view.nest (within c) c.around-at.ensures)
+    rw c.in-Some.is
+    (height_at_falls view c.in-Some.l c.around-at.result c.requires.view.nest (within c) c.around-at.ensures)
 
 pub returns-then-holds : goal.returns-then-holds
 returns-then-holds c =

@@ -15,6 +15,7 @@ pub returns : goal.returns
 returns c =
     let view : View = c.args.view.now in
     let components : List ℕ = c.in_ok-components.components in
+    let given : List ℕ = c.as_slice-3.result.now in
     let places : List ℕ = c.in_ok-places.places in
     let count : ℕ → ℕ = λ k. unwrap_or (get nat_eq c.numbered.new.counts k) 0 in
     let are = subst (λ (graph : List (List ℕ)). AreComponents graph components) c.as_slice.ensures.value
@@ -27,7 +28,7 @@ returns c =
     c.in_ok-places.ensures.places) in
     let counts : (k : ℕ) → count k ≡ length (phis_of view.turns components k (length components)) =
     λ k. c.in_ok-places.ensures.counts k
-    ∙ (ap (λ (tests : List Bool). length (phis_of tests c.as_slice-3.result.now k (length c.as_slice-3.result.now))) turns
+    ∙ (ap (λ (tests : List Bool). length (phis_of tests given k (length given))) turns
     ∙ ap (λ (numbers : List ℕ). length (phis_of view.turns numbers k (length numbers))) c.as_slice-3.ensures) in
     groups_are view c.in_ok-graph.graph.items components places c.in_ok-sizes.sizes count c.in_ok-graph.ensures.graph
     are c.requires.sizes.1 counted counts (c.in_ok-sizes.ensures ∙ ap (map count) c.as_slice-4.ensures)
