@@ -1,0 +1,4 @@
+mod Leaving
+mod Depending
+mod Counting
+mod Grouping

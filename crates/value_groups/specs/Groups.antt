@@ -19,15 +19,16 @@ place_of groups v = slice_index_or groups.places v 0
 abbrev pub size_of : GroupsParts → ℕ → ℕ
 size_of groups v = slice_index_or groups.sizes v 0
 
--- Two values have one number exactly where each depends on the other, and what a value depends on has no higher number. Phis
--- of one group have different places, below its size.
+-- Two values have one number exactly where each depends on the other, and what a value depends on has no higher number.
+-- Phis of one group have different places, below its size.
 pub record AreGroupsOf (view : View) (groups : GroupsParts) : Type 0 where
   pub lengths : (length groups.components ≡ length view.rows) × (length groups.places ≡ length view.rows)
       × (length groups.sizes ≡ length view.rows)
   pub same : (v x : ℕ) → v < length view.rows → x < length view.rows
       → component_of groups v ≡ component_of groups x ↔ AreMutual view v x
   pub falls : (v x : ℕ) → DependsOn view v x → component_of groups x ≤ component_of groups v
-  pub sizes : (v : ℕ) → v < length view.rows → (group : List ℕ) × IsGroup view v group × (size_of groups v ≡ length group)
+  pub sizes : (v : ℕ) → v < length view.rows
+      → (group : List ℕ) × IsGroup view v group × (size_of groups v ≡ length group)
   pub places : (p : ℕ) → p < length view.rows → IsTurn view p → place_of groups p < size_of groups p
   pub apart : (p q : ℕ) → p < length view.rows → q < length view.rows → IsTurn view p → IsTurn view q
       → AreMutual view p q → place_of groups p ≡ place_of groups q → p ≡ q

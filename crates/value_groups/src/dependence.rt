@@ -1,11 +1,13 @@
 //! What values depend on.
 
-ghost use Rattle.std.specs.Prelude.{◌≡◌, ◌<◌, ◌⊎◌, ◌↔◌, ◌++◌, ℕ, List, All, Contains, length, IfOk, OnOk};
+ghost use Rattle.std.specs.Prelude.{◌≡◌, ◌<◌, ◌⊎◌, ◌↔◌, ◌++◌, ℕ, List, All, Contains, length, map, IfOk, OnOk, IsTrue};
 ghost use Rattle.flow_graph.specs.Graph.{IsClosed};
+ghost use Rattle.scev_base.specs.declared.ids.ValueId.{ValueId as AnyValue};
 ghost use Rattle.value_view.specs.declared.reading.Reading.{Reading as AnyReading};
-ghost use Rattle.value_exprs.specs.View.{number_of_loop, conditions_of, Leaves};
-ghost use Rattle.value_exprs.specs.WellMade.{IsWellMade};
+ghost use Rattle.value_exprs.specs.View.{Holds, home as home_of, number_of_loop, outside};
+ghost use Rattle.value_exprs.specs.WellMade.{IsListed, IsWellMade};
 ghost use Rattle.value_groups.specs.Groups.{IsDependence};
+ghost use Rattle.value_groups.specs.Reads.{IsReadBy, IsReadLeaving};
 
 use scev_base::{LoopId, ValueId};
 use sqlite_items::Items;
@@ -13,8 +15,9 @@ use std::alloc::{AllocError, Global};
 use value_exprs::FunctionView;
 use value_view::Reading;
 
-/// The graph with an arc from each value to each one on which it depends. It takes time linear in the readings and, for
-/// each of them, in the loops that it leaves and in what their conditions read.
+/// The graph with an arc from each value to each one on which it depends. It takes time linear in the readings, in what
+/// the conditions of each loop read that a reading leaves, and for each of those loops and one more in how many loops
+/// hold the reading's place.
 pub(crate) fn dependence(
     alloc: Global,
     view: &FunctionView,
@@ -37,10 +40,9 @@ fn depends(
     reads: &[Reading],
 ) -> Result<Items<usize>, AllocError>
     requires view { IsWellMade view.now }
-    ensures { IfOk result (λ row. (x : ℕ) → Contains row x ↔ ((reading : AnyReading) × Contains reads.now reading
-        × ((reading.register.0 ≡ x)
-        ⊎ ((l : ℕ) × Leaves view.now reading.register.0 (number_of_loop reading.place) l
-        × Contains (conditions_of view.now l) (record { 0 = x }))))) }
+    requires places { All (λ (reading : AnyReading). (reading.register.0 < length view.now.rows)
+        × IsListed view.now reading.place) reads.now }
+    ensures { IfOk result (λ row. (x : ℕ) → Contains row x ↔ IsReadBy view.now reads.now x) }
 {
     let mut row = Vec::new(alloc);
     for reading in reads {
@@ -53,9 +55,11 @@ fn depends(
 /// Adds what the conditions of the exits of the loops read that an operand leaves.
 fn note_left(view: &FunctionView, reading: Reading, row: &mut Vec<usize>) -> Result<(), AllocError>
     requires view { IsWellMade view.now }
-    ensures { OnOk result ((more : List ℕ) × (row.new.items ≡ row.old.items ++ more) × ((x : ℕ) → Contains more x
-        ↔ ((l : ℕ) × Leaves view.now reading.register.0 (number_of_loop reading.place) l
-        × Contains (conditions_of view.now l) (record { 0 = x })))) }
+    requires register { reading.register.0 < length view.now.rows }
+    requires place { IsListed view.now reading.place }
+    ensures { OnOk result ((more : List ℕ) × (row.new.items ≡ row.old.items ++ more)
+        × ((x : ℕ) → Contains more x
+        ↔ IsReadLeaving view.now reading.register.0 (number_of_loop reading.place) x)) }
 {
     let mut at = home(view, reading.register);
     while let Some(l) = at {
@@ -69,7 +73,9 @@ fn note_left(view: &FunctionView, reading: Reading, row: &mut Vec<usize>) -> Res
 }
 
 /// Adds some registers.
-fn note_all(registers: &[ValueId], row: &mut Vec<usize>) -> Result<(), AllocError> {
+fn note_all(registers: &[ValueId], row: &mut Vec<usize>) -> Result<(), AllocError>
+    ensures { OnOk result (row.new.items ≡ row.old.items ++ map (λ (x : AnyValue). x.0) registers.now) }
+{
     for x in registers {
         row.push(x.0 as usize)?;
     }
@@ -77,15 +83,27 @@ fn note_all(registers: &[ValueId], row: &mut Vec<usize>) -> Result<(), AllocErro
 }
 
 /// The innermost loop in which a value is defined.
-fn home(view: &FunctionView, v: ValueId) -> Option<LoopId> {
+fn home(view: &FunctionView, v: ValueId) -> Option<LoopId>
+    requires view { IsWellMade view.now }
+    requires register { v.0 < length view.now.rows }
+    ensures home { result ≡ home_of view.now v.0 }
+    ensures listed { IsListed view.now result }
+{
     match view.rows.as_slice()[v.0 as usize].block {
-        Some(b) => view.innermost.as_slice()[b.0 as usize],
+        Some(b) => match view.innermost.as_slice().get(b.0 as usize) {
+            Some(l) => *l,
+            None => None,
+        },
         None => None,
     }
 }
 
 /// Whether a loop holds a place, given by the innermost loop that does.
-fn holds(view: &FunctionView, l: LoopId, place: Option<LoopId>) -> bool {
+fn holds(view: &FunctionView, l: LoopId, place: Option<LoopId>) -> bool
+    requires inside { l.0 < length view.now.parents }
+    requires place { IsListed view.now place }
+    ensures { IsTrue result ↔ Holds view.now l.0 (number_of_loop place) }
+{
     match place {
         Some(inner) => view.nest.contains(l, inner),
         None => false,
@@ -93,7 +111,10 @@ fn holds(view: &FunctionView, l: LoopId, place: Option<LoopId>) -> bool {
 }
 
 /// The loop around a loop.
-fn around(view: &FunctionView, l: LoopId) -> Option<LoopId> {
+fn around(view: &FunctionView, l: LoopId) -> Option<LoopId>
+    requires { l.0 < length view.now.parents }
+    ensures { number_of_loop result ≡ outside view.now l }
+{
     match view.around.as_slice()[l.0 as usize] {
         Some(parent) => Some(LoopId(parent)),
         None => None,

@@ -4,6 +4,7 @@ ghost use Rattle.std.specs.Prelude.{◌≡◌, IfOk};
 ghost use Rattle.value_exprs.specs.WellMade.{IsWellMade};
 ghost use Rattle.value_groups.specs.Groups.{AreGroupsOf};
 
+use crate::counts::{numbered, sizes};
 use crate::dependence::dependence;
 use graph_components::components;
 use indexmap::IndexMap;
@@ -12,8 +13,8 @@ use std::alloc::{AllocError, Global};
 use std::marker::Model;
 use value_exprs::FunctionView;
 
-/// For each value the number of its component, where two values have one number exactly if each depends on the other; its
-/// place in its group, where it is a phi that counts for one; and how many phis its group has.
+/// For each value the number of its component, where two values have one number exactly if each depends on the other;
+/// its place in its group, where it is a phi that counts for one; and how many phis its group has.
 #[derive(Drop)]
 pub struct Groups {
     pub components: Items<usize>,
@@ -33,49 +34,25 @@ impl Model for Groups {
     } };
 }
 
-/// The groups of a function's values, in time linear in what the values depend on. The error comes only where there is no
-/// memory.
-pub fn groups(alloc: Global, view: &FunctionView) -> Result<Groups, AllocError>
+/// The groups of a function's values, in the time that it takes to list what each of them depends on, and linear in
+/// that list. The error comes only where there is no memory.
+pub fn groups_of(alloc: Global, view: &FunctionView) -> Result<Groups, AllocError>
     requires { IsWellMade view.now }
     ensures { IfOk result (λ groups. AreGroupsOf view.now groups) }
 {
     let graph = dependence(alloc, view)?;
     let components = components(alloc, graph.as_slice())?;
     let mut counts: IndexMap<usize, u64> = IndexMap::new(alloc);
-    let mut places = Vec::new(alloc);
-    for v in 0..components.len() {
-        let component = components.as_slice()[v];
-        let count = counted(&counts, component);
-        places.push(count)?;
-        if view.turns.as_slice()[v] {
-            counts.insert(component, count + 1)?;
-        }
-    }
+    let places = numbered(
+        alloc,
+        view.turns.as_slice(),
+        components.as_slice(),
+        &mut counts,
+    )?;
     let sizes = sizes(alloc, &counts, components.as_slice())?;
     Ok(Groups {
         components,
-        places: Items::from_vec(places),
+        places,
         sizes,
     })
-}
-
-/// How many phis of a component were counted.
-fn counted(counts: &IndexMap<usize, u64>, component: usize) -> u64 {
-    match counts.get(component) {
-        Some(count) => *count,
-        None => 0,
-    }
-}
-
-/// For each value how many phis its component has.
-fn sizes(
-    alloc: Global,
-    counts: &IndexMap<usize, u64>,
-    components: &[usize],
-) -> Result<Items<u64>, AllocError> {
-    let mut sizes = Vec::new(alloc);
-    for component in components {
-        sizes.push(counted(counts, *component))?;
-    }
-    Ok(Items::from_vec(sizes))
 }
