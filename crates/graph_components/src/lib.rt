@@ -5,3 +5,4 @@ mod connected;
 mod finish;
 
 pub use connected::components;
+pub use finish::finish_order;

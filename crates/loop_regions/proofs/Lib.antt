@@ -2,7 +2,6 @@ pub mod TurnSteps
 pub mod EnteredEdges
 pub mod ThinIds
 pub mod TableLemmas
-pub mod WalkLemmas
 pub mod TextOrderLemmas
 pub mod LoneLemmas
 pub mod OneBlockLemmas

@@ -1,7 +1,6 @@
 //! Loops of a function as sets of blocks.
 #![tactic(auto)]
 
-mod finish;
 mod laws;
 mod lone;
 mod one_block;
