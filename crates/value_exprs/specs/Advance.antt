@@ -19,8 +19,8 @@ is_own v (factor (atom k w parts) no_factors) n = is_register v k parts && (n ==
 is_own v _ n = false
 
 abbrev pub behind : Factors → ℕ → Option Terms → Option Terms
-behind factors n None = None
-behind factors n (Some terms) = Some (term factors n terms)
+behind own n None = None
+behind own n (Some terms) = Some (term own n terms)
 
 -- the other monomials, where one is the register's own with coefficient 1
 abbrev pub rest_of : ℕ → Terms → Option Terms
