@@ -1,0 +1,6 @@
+//! Which registers and loops expressions name.
+#![tactic(auto)]
+
+mod laws;
+
+pub use laws::{formed_names, named_values};

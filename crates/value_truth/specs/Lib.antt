@@ -1,0 +1,2 @@
+pub mod Available
+pub mod Truth
