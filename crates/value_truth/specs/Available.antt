@@ -24,7 +24,13 @@ MayName f loops v b index (kind.Leaf register home) = (register.0 ≡ v) ⊎ IsA
 MayName f loops v b index (kind.Rec l) = (loop : Loop) × (slice_get loops l.0 ≡ Some loop) × Dominates f loop.header b
 MayName f loops v b index k = Unit {0}
 
--- An expression of a value: where an instruction defines the value, it names only what may be named there.
-abbrev pub IsInScope : Function → List Loop → ℕ → Tree → Type 0
-IsInScope f loops v tree = (b : BlockId) (index : ℕ) → definition_of f v ≡ At b index
-    → HasOnly (MayName f loops v b.0 index) tree
+-- what an expression of a value may name that no instruction defines: itself
+abbrev pub NamesItself : ℕ → Kind → Type 0
+NamesItself v (kind.Leaf register home) = register.0 ≡ v
+NamesItself v (kind.Rec l) = ⊥
+NamesItself v k = Unit {0}
+
+-- An expression of a value names only what it may.
+pub record IsInScope (f : Function) (loops : List Loop) (v : ℕ) (tree : Tree) : Type 0 where
+  pub at : (b : BlockId) (index : ℕ) → definition_of f v ≡ At b index → HasOnly (MayName f loops v b.0 index) tree
+  pub bare : ((b : BlockId) (index : ℕ) → definition_of f v ≡ At b index → ⊥) → HasOnly (NamesItself v) tree
