@@ -1,0 +1,3 @@
+pub mod HeldRegisters
+pub mod OwnNames
+pub mod Fresh
