@@ -12,8 +12,8 @@ ghost use Rattle.scev_forms.specs.Quotients.{tree_quotient};
 ghost use Rattle.scev_forms.specs.Minima.{tree_minimum};
 ghost use Rattle.tree_names.specs.Names.{HasPassing, PassesNameless};
 
-/// What is formed names no register and no loop that its operands don't name; a recurrence names its own loop too. It is said
-/// of any test of kinds that what names nothing passes.
+/// What is formed names no register and no loop that its operands don't name; a recurrence names its own loop too. It
+/// is said of any test of kinds that what names nothing passes.
 pub fn formed_names()
     ensures sum { (parents : List (Option ℕ)) (w : ℕ) (left right tree : Tree) (test : Kind → Bool)
         → ((k : Kind) → PassesNameless test k) → HasPassing test left → HasPassing test right

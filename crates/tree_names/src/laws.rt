@@ -12,8 +12,8 @@ pub fn named_values()
         → HasOnly (IsSame held other turns others) tree → tree_value held turns tree ≡ tree_value other others tree }
 {}
 
-/// An expression is invariant in a loop exactly where it names no register that is defined in the loop, and no loop that
-/// stands in it.
+/// An expression is invariant in a loop exactly where it names no register that is defined in the loop, and no loop
+/// that stands in it.
 pub fn invariant_by_names()
     ensures { (parents : List (Option ℕ)) (l : ℕ) (tree : Tree)
         → IsInvariant parents l tree ↔ HasOnly (λ kind. MovesIn parents l kind → ⊥) tree }

@@ -1,5 +1,6 @@
 -- Just after it is defined a value is available.
-use Rattle.std.proofs.Common.{◌≡◌, ℕ, ◌<◌, ◌==◌, Bool, true, false, if◌then◌else◌, List, Option, Some, None, slice_get, Contains, refl, sym, ap, ◌∙◌, subst, inl, inr, arith}
+use Rattle.std.proofs.Common.{◌≡◌, ℕ, ◌<◌, ◌==◌, Bool, true, false, if◌then◌else◌, Option, Some, None, slice_get, sym}
+use Rattle.std.proofs.Common.{subst, inl, inr, arith}
 use Rattle.std.proofs.lemmas.Bool.{eq-eqb}
 use Rattle.std.proofs.lemmas.List.Folds.{list_any-from_Any}
 use Rattle.std.proofs.lemmas.Option.{slice_get_within}
@@ -19,7 +20,7 @@ use Rattle.ir_meaning.proofs.LeadingPhis.{leading_at}
 use Rattle.never_stuck.proofs.Accepted.{block_in}
 use Rattle.ssa_check.specs.declared.definitions.Definition.TheVariants.{At}
 use Rattle.ssa_check.specs.declared.definitions.Definition.TheVariants.{Parameter}
-use Rattle.ssa_check.specs.Tables.{definition_of, at_place}
+use Rattle.ssa_check.specs.Tables.{at_place}
 use Rattle.ssa_check.proofs.Elements.{place_in}
 use Rattle.ssa_check.proofs.Limited.{no_duplicate}
 use Rattle.ssa_check.proofs.OnceDefined.{defined_there}

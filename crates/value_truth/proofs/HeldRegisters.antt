@@ -11,7 +11,9 @@ use Rattle.ir_meaning.specs.Phases as phase
 use Rattle.ir_meaning.specs.declared.choice.Choice.{Choice}
 use Rattle.ir_meaning.specs.State.{State, is_running}
 use Rattle.ir_meaning.specs.Step.{step}
-use Rattle.ir_meaning.specs.Run.{Run, start, after, last}
+use Rattle.ir_memory.specs.Memory.{Memory}
+use Rattle.ir_meaning.specs.declared.value.Value.{Value}
+use Rattle.ir_meaning.specs.Run.{MayStart, Run, start, after, last}
 use Rattle.ir_meaning.proofs.StepShape.{Stepped, stays, ends, goes_on, enters, stepped}
 use Rattle.never_stuck.proofs.Sound.{Holds, Sound}
 use Rattle.never_stuck.proofs.Started.{start_sound}
@@ -19,11 +21,11 @@ use Rattle.never_stuck.proofs.Kept.{IsWell, step_sound}
 use Rattle.value_truth.specs.Available.{IsAvailable}
 
 -- The state's trail is a walk to its block, and what that has passed holds values.
-record IsHeld (f : Function) (s : State) : Type 0 where
-  before : List ℕ
-  trail : s.trail ≡ s.block ∷ before
-  walk : Trail f (s.block ∷ before)
-  held : (v : ℕ) → HasPassed f v before s.block s.place → Holds f s.registers v
+pub record IsHeld (f : Function) (s : State) : Type 0 where
+  pub before : List ℕ
+  pub trail : s.trail ≡ s.block ∷ before
+  pub walk : Trail f (s.block ∷ before)
+  pub held : (v : ℕ) → HasPassed f v before s.block s.place → Holds f s.registers v
 
 held_of_sound : (f : Function) (s : State) → Sound f s → IsHeld f s
 held_of_sound f s sound = record {
@@ -43,12 +45,12 @@ over phase.Running ended = absurd (ended refl)
 over _ ended = refl
 
 -- a run that has come to an end stays as it is
-stays_ended : (f : Function) (choice : Choice) (s : State) → s.phase ≢ phase.Running → step f choice s ≡ s
+pub stays_ended : (f : Function) (choice : Choice) (s : State) → s.phase ≢ phase.Running → step f choice s ≡ s
 unfolding step
 stays_ended f choice s ended = rw (over s.phase ended) refl
 
 -- what is kept at each step
-abbrev Kept : Function → State → Type 0
+abbrev pub Kept : Function → State → Type 0
 Kept f s = IsHeld f s × IsWell f s
 
 module _ (signatures : Signatures) (f : Function) (made : IsWellMade f) (accepted : IsAccepted signatures f) where
@@ -73,10 +75,15 @@ module _ (signatures : Signatures) (f : Function) (made : IsWellMade f) (accepte
   after_kept [] s kept = kept
   after_kept (choice ∷ choices) s kept = after_kept choices (step f choice s) (step_kept choice s kept)
 
+  -- each state of a run is such
+  pub kept_in_run : (args : List Value) (memory : Memory) → MayStart f.params args memory → (choices : List Choice)
+      → Kept f (after f (start f args memory) choices)
+  kept_in_run args memory may choices =
+      let first = start_sound signatures f made accepted args memory may in
+      after_kept choices (start f args memory) (held_of_sound f (start f args memory) first, inl (first, refl))
+
   pub available_held : (r : Run f) (v : ℕ) → IsAvailable f v (last f r).block (last f r).place
       → Holds f (last f r).registers v
   available_held r v available =
-      let first = start_sound signatures f made accepted r.args r.memory r.may in
-      let start_kept : Kept f (start f r.args r.memory) = (held_of_sound f _ first, inl (first, refl)) in
-      let held = (after_kept r.choices (start f r.args r.memory) start_kept).0 in
+      let held = (kept_in_run r.args r.memory r.may r.choices).0 in
       held.held v (available held.before held.walk)

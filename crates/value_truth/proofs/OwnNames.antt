@@ -1,5 +1,5 @@
 -- An integer's own name has the number that its register holds.
-use Rattle.std.proofs.Common.{◌≡◌, ℕ, ◌<◌, ◌^◌, true, Option, Some, refl, sym, ap, ◌∙◌, subst, inl, inr, arith}
+use Rattle.std.proofs.Common.{◌≡◌, ℕ, ◌<◌, ◌^◌, true, Option, Some, refl, sym, ap, ◌∙◌, subst, inl, inr}
 use Rattle.std.proofs.Math.Nat.{mod-eq_of_lt}
 use Rattle.std.proofs.lemmas.Bool.{ltb-true}
 use Rattle.scev_base.specs.declared.ids.LoopId.{LoopId}
@@ -12,8 +12,7 @@ use Rattle.scev_tree.specs.declared.kind.Kind.TheVariants as kind
 use Rattle.scev_tree.specs.Tree.{Tree, of_atom, atom, no_parts}
 use Rattle.scev_tree.specs.Value.{tree_value}
 use Rattle.scev_forms.proofs.Atoms.{of_atom_value}
-use Rattle.value_numbers.specs.Denotes.{Denotes}
-use Rattle.value_truth.specs.Truth.{number_of}
+use Rattle.value_truth.specs.Truth.{Denotes, number_of}
 
 -- a value of the type is poison or a number of w bits
 typed_denotes : (w : ℕ) (x : Value) (y : Option ℕ) → is_of_type (Int w) x ≡ true

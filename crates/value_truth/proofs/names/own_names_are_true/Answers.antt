@@ -1,4 +1,3 @@
-use Rattle.std.proofs.Common.{◌≡◌}
 use Rattle.loop_regions.specs.Turns.{turns}
 use Rattle.ir_meaning.specs.Run.{last}
 use Rattle.ir_rules.specs.Types.{kind_of}
