@@ -56,8 +56,8 @@ module _ (signatures : Signatures) (f : Function) (made : IsWellMade f) (accepte
         (subst (λ (n : ℕ). GivesTo n instr) own gives) in
         other (same_place d (record { 0 = s.block }) i s.place (sym is ∙ there))
     gives_none u (inr there) gives =
-        other_given signatures f made accepted v d i is s.block s.place s.place block instr u found stands gives available
-        (omega arith) there
+        other_given signatures f made accepted v d i is s.block s.place s.place block instr u found stands gives
+        available (omega arith) there
         (passed_reachable f v d i is before s.block s.place trail (available before trail))
 
     pub kept_going : Holds loops s v tree → Holds loops (after_effect instr.result s (Goes x memory events)) v tree
@@ -75,7 +75,8 @@ module _ (signatures : Signatures) (f : Function) (made : IsWellMade f) (accepte
       (other : (d.0 ≡ to) × (i < length (leading_phis block_to.instrs)) → ⊥)
       (available : IsAvailable f v to (length (leading_phis block_to.instrs))) where
     at_start : IsAvailable f v to 0
-    at_start = before_phis signatures f made accepted v d i is to (length (leading_phis block_to.instrs)) other available
+    at_start =
+        before_phis signatures f made accepted v d i is to (length (leading_phis block_to.instrs)) other available
 
     longer : Trail f (to ∷ s.block ∷ before)
     longer = goes_along trail edge
@@ -105,8 +106,8 @@ module _ (signatures : Signatures) (f : Function) (made : IsWellMade f) (accepte
     same_turn l loop at dominates =
         let apart : to ≢ loop.header =
         λ e.
-        no_header signatures f made accepted v d i is to (subst (λ (h : ℕ). Dominates f h d.0) (sym e) dominates) at_start
-        reachable in
+        no_header signatures f made accepted v d i is to (subst (λ (h : ℕ). Dominates f h d.0) (sym e) dominates)
+        at_start reachable in
         let own : unwrap_or (slice_get loops l) (record { header = 0; blocks = [] }) ≡ loop =
         ap (λ (o : Option Loop). unwrap_or o (record { header = 0; blocks = [] })) at in
         ap (λ (k : Loop). turn k s.trail) own ∙ sym (turn_stays loop s.trail to apart)

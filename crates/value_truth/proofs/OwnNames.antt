@@ -22,8 +22,8 @@ typed_denotes w value.Poison y typed told = inl refl
 typed_denotes w (value.Pointer block offset) y typed told = absurd cc
 typed_denotes w value.Null y typed told = absurd cc
 
-pub name_denotes : (held : ℕ → Option Value) (turns : ℕ → ℕ) (v w : ℕ) (home : Option LoopId) (type : IrType) (x : Value)
-    → held v ≡ Some x → is_of_type type x ≡ true → type ≡ Int w
+pub name_denotes : (held : ℕ → Option Value) (turns : ℕ → ℕ) (v w : ℕ) (home : Option LoopId) (type : IrType)
+    (x : Value) → held v ≡ Some x → is_of_type type x ≡ true → type ≡ Int w
     → Denotes (held v)
     (tree_value (λ u. number_of (held u)) turns (of_atom w (atom (kind.Leaf (record { 0 = v }) home) w no_parts)))
 name_denotes held turns v w home type x set typed is =

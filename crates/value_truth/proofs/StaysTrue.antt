@@ -75,8 +75,8 @@ snoc_same {X} (a ∷ xs) (b ∷ ys) x y e =
     rw first (ap (λ (zs : List X). b ∷ zs) (snoc_same xs ys x y rest))
 
 -- what holds of the empty list, and with one more at the end, holds of each list
-from_front : {X : Type 0} (P : List X → Type 0) → ((xs : List X) (x : X) → P xs → P (xs ++ x ∷ [])) → (done rest : List X)
-    → P done → P (done ++ rest)
+from_front : {X : Type 0} (P : List X → Type 0) → ((xs : List X) (x : X) → P xs → P (xs ++ x ∷ []))
+    → (done rest : List X) → P done → P (done ++ rest)
 from_front P more done [] holds = subst P (sym (append-nil done)) holds
 from_front P more done (x ∷ rest) holds =
     subst P (append_assoc done (x ∷ []) rest) (from_front P more (done ++ x ∷ []) rest (more done x holds))

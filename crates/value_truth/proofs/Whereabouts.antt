@@ -50,8 +50,8 @@ module _ (signatures : Signatures) (f : Function) (made : IsWellMade f) (accepte
         → slice_get block.instrs k ≡ Some instr → GivesTo u instr → IsAvailable f v b ju → ju ≤ k
         → IsAvailable f u d.0 i → Reachable f d.0 → ⊥
     other_given b k ju block instr u found stands gives v_there before u_there reachable =
-        not_both f u v (record { 0 = b }) d k i (gives_there b k block instr u found stands gives) is ju i u_there v_there
-        (omega arith) before reachable
+        not_both f u v (record { 0 = b }) d k i (gives_there b k block instr u found stands gives) is ju i u_there
+        v_there (omega arith) before reachable
 
     -- a walk that has come behind an instruction which doesn't give the value had passed the value before
     pub before_instr : (b index : ℕ) → ((d.0 ≡ b) × (i ≡ index) → ⊥) → IsAvailable f v b (index + 1)
@@ -77,7 +77,8 @@ module _ (signatures : Signatures) (f : Function) (made : IsWellMade f) (accepte
         ])
 
     -- what is available at the start of a block is so at the end of each block that leads to it
-    pub at_the_end : (a b index : ℕ) → Edge f a b → ((d.0 ≡ a) → i < index) → IsAvailable f v b 0 → IsAvailable f v a index
+    pub at_the_end : (a b index : ℕ) → Edge f a b → ((d.0 ≡ a) → i < index) → IsAvailable f v b 0
+        → IsAvailable f v a index
     at_the_end a b index edge within available before trail =
         at_passed f v d i is before a index
         (elim (passed_at f v d i is (a ∷ before) b 0 (available (a ∷ before) (goes_along trail edge))) [

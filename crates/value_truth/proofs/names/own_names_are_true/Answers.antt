@@ -8,5 +8,5 @@ use Rattle.value_truth.proofs.names.own_names_are_true.Goals as goal
 pub returns : goal.returns
 returns c signatures f loops v w home made accepted is r available =
     let held = available_held signatures f made accepted r v available in
-    name_denotes (last f r).registers (turns loops (last f r).trail) v w home (kind_of f v) held.value held.set held.typed
-    is
+    name_denotes (last f r).registers (turns loops (last f r).trail) v w home (kind_of f v) held.value held.set
+    held.typed is
