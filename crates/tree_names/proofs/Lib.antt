@@ -1,3 +1,6 @@
+pub mod Values
+pub mod Invariant
 pub mod Only
-pub mod Invariance
-pub mod NamedValues
+pub mod Formed
+pub mod Casts
+pub mod Choices

@@ -1,16 +1,14 @@
 -- Just after it is defined a value is available.
-use Rattle.std.proofs.Common.{◌≡◌, ℕ, ◌<◌, ◌==◌, Bool, true, false, if◌then◌else◌, Option, Some, None, slice_get, sym}
+use Rattle.std.proofs.Common.{◌≡◌, ℕ, ◌<◌, ◌==◌, Some, slice_get, sym}
 use Rattle.std.proofs.Common.{subst, inl, inr, arith}
 use Rattle.std.proofs.lemmas.Bool.{eq-eqb}
 use Rattle.std.proofs.lemmas.List.Folds.{list_any-from_Any}
 use Rattle.std.proofs.lemmas.Option.{slice_get_within}
-use Rattle.scev_base.specs.declared.ids.BlockId.{BlockId}
 use Rattle.ir_model.specs.declared.function.Param.{Param}
 use Rattle.ir_model.specs.declared.function.Instr.{Instr}
 use Rattle.ir_model.specs.declared.function.Block.{Block}
 use Rattle.ir_model.specs.declared.function.Function.{Function}
 use Rattle.ir_model.specs.declared.signature.Signatures.{Signatures}
-use Rattle.ir_model.specs.Places.{is_param, given_at}
 use Rattle.ir_model.specs.Shapes.{block_of, leading_phis}
 use Rattle.ir_rules.specs.Accepted.{IsAccepted}
 use Rattle.ir_meaning.specs.State.{State}
@@ -18,20 +16,11 @@ use Rattle.ir_meaning.specs.Run.{GivesTo, IsFresh}
 use Rattle.ir_meaning.proofs.ListPlaces.{some_at}
 use Rattle.ir_meaning.proofs.LeadingPhis.{leading_at}
 use Rattle.never_stuck.proofs.Accepted.{block_in}
-use Rattle.ssa_check.specs.declared.definitions.Definition.TheVariants.{At}
-use Rattle.ssa_check.specs.declared.definitions.Definition.TheVariants.{Parameter}
-use Rattle.ssa_check.specs.Tables.{at_place}
 use Rattle.ssa_check.proofs.Elements.{place_in}
 use Rattle.ssa_check.proofs.Limited.{no_duplicate}
 use Rattle.ssa_check.proofs.OnceDefined.{defined_there}
 use Rattle.value_truth.specs.Available.{IsAvailable}
-
--- a definition at a place is the place of the value
-place_is : (param : Bool) (o : Option (BlockId × ℕ)) (d : BlockId) (i : ℕ)
-    → (if param then Parameter else at_place o) ≡ At d i → (if param then None else o) ≡ Some (d, i)
-place_is true o d i e = absurd (cc)
-place_is false None d i e = absurd (cc)
-place_is false (Some (b, j)) d i e = cc
+use Rattle.value_truth.proofs.FirstArrival.{place}
 
 module _ (signatures : Signatures) (f : Function) (accepted : IsAccepted signatures f) where
   -- behind the instruction that gives a value it is available
@@ -42,7 +31,7 @@ module _ (signatures : Signatures) (f : Function) (accepted : IsAccepted signatu
       let at = place_in f.blocks block among.0 in
       let once = no_duplicate signatures f accepted.shape in
       let is = defined_there f once at.0 block i instr v at.1 stands gives in
-      inr (block.id, i, place_is (is_param f.params v) (given_at f.blocks v) block.id i is, inr (among.1, behind))
+      inr (block.id, i, (place f v block.id i is).1, inr (among.1, behind))
 
   pub fresh_available : (s : State) (v : ℕ) → IsFresh f s v → IsAvailable f v s.block s.place
   fresh_available s v (running, block, found, inl param) =

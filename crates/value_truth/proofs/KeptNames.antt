@@ -11,8 +11,8 @@ use Rattle.scev_tree.specs.declared.kind.Kind.{Kind}
 use Rattle.scev_tree.specs.declared.kind.Kind.TheVariants as kind
 use Rattle.scev_tree.specs.Tree.{Tree}
 use Rattle.tree_names.specs.Names.{HasOnly, IsSame}
-use Rattle.tree_names.proofs.Only.{only_weaker}
-use Rattle.tree_names.proofs.NamedValues.{value_same}
+use Rattle.tree_names.proofs.Invariant.{only_of_stronger}
+use Rattle.tree_names.proofs.Values.{tree_same}
 use Rattle.value_truth.specs.Available.{IsAvailable, MayName, NamesItself}
 use Rattle.value_truth.specs.Truth.{Denotes, number_of, value_at, Holds}
 
@@ -26,7 +26,7 @@ module _ (f : Function) (loops : List Loop) (v : ℕ) (tree : Tree) (s t : State
   holds_with : HasOnly SameThere tree → s.registers v ≡ t.registers v → Holds loops s v tree → Holds loops t v tree
   holds_with only own holds =
       let same : value_at loops s tree ≡ value_at loops t tree =
-      value_same (λ u. number_of (s.registers u)) (λ u. number_of (t.registers u)) (turns loops s.trail)
+      tree_same (λ u. number_of (s.registers u)) (λ u. number_of (t.registers u)) (turns loops s.trail)
       (turns loops t.trail) tree only in
       subst (λ (o : Option ℕ). Denotes (t.registers v) o) same
       (subst (λ (x : Option Value). Denotes x (value_at loops s tree)) own holds)
@@ -42,7 +42,8 @@ module _ (f : Function) (loops : List Loop) (v : ℕ) (tree : Tree) (s t : State
     named _ may = may
 
     pub holds_on : Holds loops s v tree → Holds loops t v tree
-    holds_on = holds_with (only_weaker named tree scope) (registers v (inl refl))
+    holds_on =
+        holds_with (only_of_stronger (MayName f loops v d.0 i) SameThere named tree scope) (registers v (inl refl))
 
   -- of a value that none defines
   module _ (scope : HasOnly (NamesItself v) tree) (own : s.registers v ≡ t.registers v) where
@@ -54,4 +55,4 @@ module _ (f : Function) (loops : List Loop) (v : ℕ) (tree : Tree) (s t : State
     itself _ may = may
 
     pub bare_holds_on : Holds loops s v tree → Holds loops t v tree
-    bare_holds_on = holds_with (only_weaker itself tree scope) own
+    bare_holds_on = holds_with (only_of_stronger (NamesItself v) SameThere itself tree scope) own

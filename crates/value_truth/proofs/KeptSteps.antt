@@ -36,7 +36,7 @@ use Rattle.value_truth.proofs.Whereabouts.{gives_there, other_given, before_phis
 use Rattle.value_truth.proofs.KeptNames.{holds_on}
 
 -- definitions at one place
-same_place : (d e : BlockId) (i j : ℕ) → At d i ≡ At e j → (d.0 ≡ e.0) × (i ≡ j)
+pub same_place : (d e : BlockId) (i j : ℕ) → At d i ≡ At e j → (d.0 ≡ e.0) × (i ≡ j)
 same_place d e i j is =
     let block : d ≡ e = cc in
     (ap (λ (b : BlockId). b.0) block, cc)

@@ -6,3 +6,5 @@ pub mod Whereabouts
 pub mod KeptNames
 pub mod KeptSteps
 pub mod StaysTrue
+pub mod Scopes
+pub mod AnewSteps

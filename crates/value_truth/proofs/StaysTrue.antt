@@ -98,7 +98,7 @@ below_or_not a b j k =
     ]
 
 -- where a value is defined, or that no instruction defines it
-defined_or_not : (o : Definition) → ((d : BlockId) × (i : ℕ) × (o ≡ At d i))
+pub defined_or_not : (o : Definition) → ((d : BlockId) × (i : ℕ) × (o ≡ At d i))
     ⊎ ((d : BlockId) (i : ℕ) → o ≡ At d i → ⊥)
 defined_or_not (At d i) = inl (d, i, refl)
 defined_or_not _ = inr (λ d i e. cc)
