@@ -1,6 +1,6 @@
 //! Laws of turns: facts about any run of any function that is accepted, proved once.
 
-ghost use Rattle.std.specs.Prelude.{◌≡◌, ℕ, Some, Contains, slice_get};
+ghost use Rattle.std.specs.Prelude.{◌≡◌, ◌<◌, ℕ, Some, Contains, slice_get};
 ghost use Rattle.scev_base.specs.declared.ids.BlockId.{BlockId};
 ghost use Rattle.ir_model.specs.declared.function.Function.{Function};
 ghost use Rattle.ir_model.specs.declared.signature.Signatures.{Signatures};
@@ -21,10 +21,12 @@ pub fn no_turn_before_a_use()
         (r : Run f) → IsAccepted signatures f → IsLoop f l
         → slice_get (uses f) k ≡ Some use_ → definition_of f use_.value ≡ At d i
         → Contains l.blocks d.0 → Contains l.blocks use_.block
-        → (last f r).block ≡ use_.block → NoTurnSince l d.0 (last f r).trail }
+        → (last f r).block ≡ use_.block
+        → NoTurnSince l d.0 (last f r).trail × (d.0 ≡ use_.block → i < use_.index) }
     ensures left { (signatures : Signatures) (f : Function) (l : Loop) (k : ℕ) (use_ : Use) (d : BlockId) (i : ℕ)
         (r : Run f) → IsAccepted signatures f → IsLoop f l
         → slice_get (uses f) k ≡ Some use_ → definition_of f use_.value ≡ At d i
         → Contains l.blocks d.0 → (Contains l.blocks use_.block → ⊥)
-        → (last f r).block ≡ use_.block → NoTurnSince l d.0 (last f r).trail }
+        → (last f r).block ≡ use_.block
+        → NoTurnSince l d.0 (last f r).trail × (d.0 ≡ use_.block → i < use_.index) }
 {}
