@@ -1,0 +1,6 @@
+pub mod Values
+pub mod Invariant
+pub mod Only
+pub mod Formed
+pub mod Casts
+pub mod Choices

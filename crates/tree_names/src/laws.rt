@@ -1,11 +1,12 @@
 //! Laws of names. Each is a function that does nothing.
 
-ghost use Rattle.std.specs.Prelude.{◌≡◌, ℕ, Bool, List, ◌∷◌, Option, All, IsTrue};
+ghost use Rattle.std.specs.Prelude.{◌≡◌, ◌↔◌, ℕ, Bool, List, ◌∷◌, Option, All, IsTrue};
 ghost use Rattle.scev_base.specs.declared.ids.LoopId.{LoopId};
 ghost use Rattle.scev_tree.specs.declared.kind.Kind.{Kind};
 ghost use Rattle.scev_tree.specs.declared.kind.Kind.TheVariants as kind;
 ghost use Rattle.scev_tree.specs.Tree.{Tree};
 ghost use Rattle.scev_tree.specs.Value.{tree_value};
+ghost use Rattle.scev_tree.specs.Invariant.{MovesIn, IsInvariant};
 ghost use Rattle.scev_forms.specs.Outcome.{Done};
 ghost use Rattle.scev_forms.specs.Sums.{tree_sum, tree_product, recurrence_of};
 ghost use Rattle.scev_forms.specs.Casts.{truncated, extended_when};
@@ -13,8 +14,8 @@ ghost use Rattle.scev_forms.specs.Quotients.{tree_quotient};
 ghost use Rattle.scev_forms.specs.Minima.{tree_minimum};
 ghost use Rattle.tree_names.specs.Names.{HasOnly, HasPassing, PassesNameless, IsSame};
 
-/// What is formed names no register and no loop that its operands don't name; a recurrence names its own loop too. It is said
-/// of any test of kinds that what names nothing passes.
+/// What is formed names no register and no loop that its operands don't name; a recurrence names its own loop too. It
+/// is said of any test of kinds that what names nothing passes.
 pub fn formed_names()
     ensures sum { (parents : List (Option ℕ)) (w : ℕ) (left right tree : Tree) (test : Kind → Bool)
         → ((k : Kind) → PassesNameless test k) → HasPassing test left → HasPassing test right
@@ -43,4 +44,10 @@ pub fn formed_names()
 pub fn named_values()
     ensures { (held other : ℕ → Option ℕ) (turns others : ℕ → ℕ) (tree : Tree)
         → HasOnly (IsSame held other turns others) tree → tree_value held turns tree ≡ tree_value other others tree }
+{}
+
+/// An expression is invariant in a loop exactly where it names nothing that moves in the loop.
+pub fn invariant_by_names()
+    ensures { (parents : List (Option ℕ)) (l : ℕ) (tree : Tree)
+        → IsInvariant parents l tree ↔ HasOnly (λ k. MovesIn parents l k → ⊥) tree }
 {}

@@ -3,4 +3,4 @@
 
 mod laws;
 
-pub use laws::{formed_names, named_values};
+pub use laws::{formed_names, invariant_by_names, named_values};

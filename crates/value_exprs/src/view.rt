@@ -7,8 +7,8 @@ use value_view::{Reading, Row};
 
 /// What the classification asks of a function: for each value its row, what it reads, and whether it is a phi in the
 /// header of a loop with one operand from outside and one on all back edges, of any type; for each block the innermost
-/// loop; the nest of loops; and for each loop the one around it, as the nest has it, and the registers that the conditions
-/// of its exits read.
+/// loop; the nest of loops; and for each loop the one around it, as the nest has it, and the registers that the
+/// conditions of its exits read.
 #[derive(Drop)]
 pub struct FunctionView {
     pub rows: Items<Row>,

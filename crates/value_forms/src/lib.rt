@@ -1,12 +1,12 @@
 //! Expressions of values, formed of those of their operands.
 #![tactic(auto)]
 
-mod advance;
 mod mentions;
-mod own_name;
+mod names;
 mod pairs;
 mod shifts;
+mod turns;
 
-pub use advance::advance;
-pub use own_name::own_name;
+pub use names::own_name;
 pub use pairs::{formed_cast, formed_pair};
+pub use turns::advance;

@@ -1,8 +1,10 @@
 //! What operations and conversions form of expressions of their operands.
 
-ghost use Rattle.std.specs.Prelude.{◌≡◌, ◌≤◌, Some, IfOk};
-ghost use Rattle.scev_tree.specs.Tree.{width_of};
+ghost use Rattle.std.specs.Prelude.{◌≡◌, ℕ, List, Some, IfOk};
+ghost use Rattle.scev_tree.specs.Tree.{Tree, width_of};
+ghost use Rattle.scev_arena.specs.declared.node.Node as declared;
 ghost use Rattle.scev_arena.specs.Meaning.{tree_of};
+ghost use Rattle.scev_forms.specs.Outcome.{Outcome};
 ghost use Rattle.scev_sums.specs.Answers.{GoesOn, IsAt, IsTreeOfAt, Tells};
 ghost use Rattle.value_exprs.specs.Steps as steps;
 ghost use Rattle.value_exprs.specs.WellMade.{AreCastWidths};
@@ -80,7 +82,7 @@ fn formed(
 
 /// What was formed, or the limit that was met.
 fn some(formed: Result<ExprId, FoldError>) -> Result<Option<ExprId>, FoldError>
-    ensures { (nodes : List Node) (w : ℕ) (outcome : Outcome Tree) → Tells (IsAt nodes w) outcome formed
+    ensures { (nodes : List declared.Node) (w : ℕ) (outcome : Outcome Tree) → Tells (IsAt nodes w) outcome formed
         → MayTell nodes w (Some outcome) result }
 {
     match formed {

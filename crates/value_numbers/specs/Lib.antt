@@ -1,2 +1,2 @@
-pub mod Denotes
+pub mod Held
 pub mod Typed

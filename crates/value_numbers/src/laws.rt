@@ -16,11 +16,12 @@ ghost use Rattle.value_view.specs.declared.given.Given.TheVariants as given;
 ghost use Rattle.value_view.specs.Givens.{given_by};
 ghost use Rattle.value_exprs.specs.Steps.{formed_pair, formed_cast};
 ghost use Rattle.value_exprs.specs.WellMade.{IsWidth, AreCastWidths};
-ghost use Rattle.value_numbers.specs.Denotes.{Denotes, held_by};
+ghost use Rattle.value_truth.specs.Truth.{Denotes};
+ghost use Rattle.value_numbers.specs.Held.{held_by};
 ghost use Rattle.value_numbers.specs.Typed.{IsOfWidth};
 
-/// Where expressions tell what the operands of an operation are, the one that is formed of them tells what the operation
-/// gives, whatever the registers hold and at whatever turns.
+/// Where expressions tell what the operands of an operation are, the one that is formed of them tells what the
+/// operation gives, whatever the registers hold and at whatever turns.
 pub fn rows_keep_the_value()
     ensures pair { (parents : List (Option ℕ)) (w : ℕ) (op : Op) (p : Pair) (left right : Source) (x y tree : Tree)
         (registers : Registers) (choice : ℕ) (z : Value) (held : ℕ → Option ℕ) (turns : ℕ → ℕ)

@@ -1,0 +1,10 @@
+pub mod HeldRegisters
+pub mod OwnNames
+pub mod Fresh
+pub mod FirstArrival
+pub mod Whereabouts
+pub mod KeptNames
+pub mod KeptSteps
+pub mod StaysTrue
+pub mod Scopes
+pub mod AnewSteps

@@ -1,5 +1,5 @@
 -- When an expression is true of a value.
-use Rattle.std.specs.Prelude.{◌≡◌, ℕ, List, [], ◌∷◌, ◌++◌, Option, Some, None}
+use Rattle.std.specs.Prelude.{◌≡◌, ◌⊎◌, ℕ, List, [], ◌∷◌, ◌++◌, Option, Some, None}
 use Rattle.ir_model.specs.declared.function.Function.{Function}
 use Rattle.ir_meaning.specs.declared.value.Value.{Value}
 use Rattle.ir_meaning.specs.declared.value.Value.TheVariants as value
@@ -10,8 +10,11 @@ use Rattle.loop_regions.specs.Loops.{Loop}
 use Rattle.loop_regions.specs.Turns.{turns}
 use Rattle.scev_tree.specs.Tree.{Tree}
 use Rattle.scev_tree.specs.Value.{tree_value}
-use Rattle.value_numbers.specs.Denotes.{Denotes}
 use Rattle.value_truth.specs.Available.{IsAvailable}
+
+-- What is held is poison, or the number that is a value.
+abbrev pub Denotes : Option Value → Option ℕ → Type 0
+Denotes held x = (held ≡ Some value.Poison) ⊎ ((n : ℕ) × (held ≡ Some (value.Number n)) × (x ≡ Some n))
 
 -- the number that a register holds, none where it holds none
 abbrev pub number_of : Option Value → Option ℕ
@@ -26,8 +29,8 @@ value_at loops s tree = tree_value (λ v. number_of (s.registers v)) (turns loop
 abbrev pub Holds : List Loop → State → ℕ → Tree → Type 0
 Holds loops s v tree = Denotes (s.registers v) (value_at loops s tree)
 
--- The expression is true of the register: in every run of the function, each time just after the register is defined, it
--- holds poison or the expression's value at that moment.
+-- The expression is true of the register: in every run of the function, each time just after the register is defined,
+-- it holds poison or the expression's value at that moment.
 abbrev pub IsTrueOf : Function → List Loop → ℕ → Tree → Type 0
 IsTrueOf f loops v tree = (r : Run f) → IsFresh f (last f r) v → Holds loops (last f r) v tree
 

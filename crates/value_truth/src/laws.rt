@@ -10,8 +10,8 @@ ghost use Rattle.scev_tree.specs.Tree.{Tree};
 ghost use Rattle.value_truth.specs.Available.{IsInScope};
 ghost use Rattle.value_truth.specs.Truth.{IsTrueAnew, IsAlwaysTrueOf};
 
-/// An expression of a value that names only what may be named where the value is defined is always true of it, if it is true
-/// just after each definition: no later step changes what it names while the value is available.
+/// An expression of a value that names only what may be named where the value is defined is always true of it, if it is
+/// true just after each definition: no later step changes what it names while the value is available.
 pub fn what_is_true_stays_true()
     ensures { (signatures : Signatures) (f : Function) (loops : List Loop) (v : ℕ) (tree : Tree)
         → IsWellMade f → IsAccepted signatures f

@@ -1,20 +1,20 @@
 //! How a phi goes on in a turn of its loop.
 
-ghost use Rattle.std.specs.Prelude.{◌≡◌, ◌<◌, ◌⊎◌, ℕ, ◌++◌, List, Option, Some, None, take, drop, length, slice_get, false, IfOk, IfSome, IfNone, IsTrue};
+ghost use Rattle.std.specs.Prelude.{◌≡◌, ℕ, ◌+◌, ◌<◌, List, ◌++◌, take, drop, length, Some, None};
+ghost use Rattle.std.specs.Prelude.{IfOk, OnOk, IfSome, IfNone, IsTrue};
 ghost use Rattle.scev_tree.specs.Tree.{Tree, Terms, polynomial};
 ghost use Rattle.scev_tree.specs.Invariant.{IsInvariant};
-ghost use Rattle.scev_arena.specs.Limits.{is_in};
-ghost use Rattle.scev_arena.specs.Meaning.{tree_of};
-ghost use Rattle.scev_arena.specs.Standing.{IsTreeAt};
+ghost use Rattle.scev_arena.specs.Meaning.{meanings, tree_of, factors_at, terms_at};
+ghost use Rattle.scev_arena.specs.Standing.{IsTreeAt, AreAtoms, AreOverAtoms};
+ghost use Rattle.scev_walk.specs.Reading.{term_moves, factor_moves};
 ghost use Rattle.scev_sums.specs.Answers.{GoesOn, IsAt, IsTreeOfAt, AreTreesOfAt, trees_at};
-ghost use Rattle.value_exprs.specs.Advance.{IsAdvance, rest_of};
+ghost use Rattle.value_exprs.specs.Advance.{IsAdvance, rest_of, is_own};
 ghost use Rattle.value_forms.specs.Answers.{AreSteps};
 
 use crate::mentions::{is_register, mentions};
 use poly_terms::Term;
 use scev_arena::{Arena, Node};
 use scev_base::{ExprId, LoopId, LoopNest, ValueId, Width};
-use scev_sums::copied_terms;
 use scev_tree::Kind;
 use scev_walk::{alone, atom_at, moves, tree_at};
 use sqlite_items::Items;
@@ -76,7 +76,13 @@ fn rest(
 }
 
 /// The place of the first monomial that is the register's own with coefficient 1.
-fn own_term(arena: &Arena, v: ValueId, terms: &[Term]) -> Option<usize> {
+fn own_term(arena: &Arena, v: ValueId, terms: &[Term]) -> Option<usize>
+    requires { (w : ℕ) × AreOverAtoms arena.now w terms.now }
+    ensures place { IfSome result (λ at. at < length terms.now) }
+    ensures found { IfSome result (λ at. rest_of v.0 (terms_at (meanings arena.now) terms.now)
+        ≡ Some (terms_at (meanings arena.now) (take at terms.now ++ drop (at + 1) terms.now))) }
+    ensures none { IfNone result (rest_of v.0 (terms_at (meanings arena.now) terms.now) ≡ None) }
+{
     for at in 0..terms.len() {
         if is_own(arena, v, &terms[at]) {
             return Some(at);
@@ -86,9 +92,15 @@ fn own_term(arena: &Arena, v: ValueId, terms: &[Term]) -> Option<usize> {
 }
 
 /// Whether a monomial is the register's own with coefficient 1.
-fn is_own(arena: &Arena, v: ValueId, t: &Term) -> bool {
+fn is_own(arena: &Arena, v: ValueId, t: &Term) -> bool
+    requires { (w : ℕ) × AreAtoms arena.now w t.now.ids }
+    ensures { result ≡ is_own v.0 (factors_at (meanings arena.now) t.now.ids) t.now.coefficient }
+{
     match t.ids.as_slice() {
-        [atom] if t.coefficient == 1 => is_register(v, atom_at(arena, *atom).0),
+        [atom] => {
+            let kind = atom_at(arena, *atom).0;
+            is_register(v, kind) && t.coefficient == 1
+        }
         _ => false,
     }
 }
@@ -99,12 +111,19 @@ fn without(alloc: Global, terms: &[Term], at: usize) -> Result<Items<Term>, Allo
     ensures { IfOk result (λ others. others ≡ take at terms.now ++ drop (at + 1) terms.now) }
 {
     let mut others = Vec::new(alloc);
-    for k in 0..terms.len() {
-        if k != at {
-            others.push(terms[k].copied(alloc)?)?;
-        }
-    }
+    push_copies(alloc, &mut others, &terms[..at])?;
+    push_copies(alloc, &mut others, &terms[at + 1..])?;
     Ok(Items::from_vec(others))
+}
+
+/// Adds copies of some monomials to the end.
+fn push_copies(alloc: Global, others: &mut Vec<Term>, terms: &[Term]) -> Result<(), AllocError>
+    ensures { OnOk result (others.new.items ≡ others.old.items ++ terms.now) }
+{
+    for t in terms {
+        others.push(t.copy(alloc)?)?;
+    }
+    Ok(())
 }
 
 /// What is invariant in the loop, or the parts of a recurrence of the loop.
@@ -141,7 +160,17 @@ fn changes(arena: &Arena, nest: &LoopNest, l: LoopId, id: ExprId) -> bool
     ensures moves { IsTrue result → IsInvariant nest.now l.0 (tree_of arena.now id) → ⊥ }
     ensures stays { (IsTrue result → ⊥) → IsInvariant nest.now l.0 (tree_of arena.now id) }
 {
+    // A nest tells with its count that each way out of it ends.
+    let _ = nest.loop_count();
     let (_, terms) = tree_at(arena, id);
+    some_moves(arena, nest, l, terms)
+}
+
+/// Whether a factor of one of some monomials changes while the loop runs.
+fn some_moves(arena: &Arena, nest: &LoopNest, l: LoopId, terms: &[Term]) -> bool
+    requires { (w : ℕ) × AreOverAtoms arena.now w terms.now }
+    ensures { result ≡ term_moves nest.now l.0 (terms_at (meanings arena.now) terms.now) }
+{
     for t in terms {
         if one_moves(arena, nest, l, t.ids.as_slice()) {
             return true;
@@ -151,7 +180,10 @@ fn changes(arena: &Arena, nest: &LoopNest, l: LoopId, id: ExprId) -> bool
 }
 
 /// Whether one of some factors changes while the loop runs.
-fn one_moves(arena: &Arena, nest: &LoopNest, l: LoopId, ids: &[ExprId]) -> bool {
+fn one_moves(arena: &Arena, nest: &LoopNest, l: LoopId, ids: &[ExprId]) -> bool
+    requires { (w : ℕ) × AreAtoms arena.now w ids.now }
+    ensures { result ≡ factor_moves nest.now l.0 (factors_at (meanings arena.now) ids.now) }
+{
     for id in ids {
         if moves(arena, nest, l, *id) {
             return true;
