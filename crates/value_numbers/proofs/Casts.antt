@@ -32,11 +32,11 @@ module _ (held : ℕ → Option ℕ) (turns : ℕ → ℕ) (parents : List (Opti
   number_row cast.Zext nneg x tree n widths is h value =
       unless_poison (nneg && nat_le (2 ^ (v - 1)) n) n (tree_value held turns tree)
       (λ _. within_value kind.Zext w x tree tt (omega (arith, is.0, some)) (omega (arith, is.0, widths)) is.1 held
-      turns false n h (λ never. absurd never) value)
+      turns false n h (λ never. absurd cc) value)
   number_row cast.Sext nneg x tree n widths is h value =
       inr (residue w (reading v n), refl,
       within_value kind.Sext w x tree tt (omega (arith, is.0, some)) (omega (arith, is.0, widths)) is.1 held
-      turns false n h (λ never. absurd never) value
+      turns false n h (λ never. absurd cc) value
       ∙ ap (λ u. Some (residue w (reading u n))) is.0)
   number_row cast.Trunc nneg x tree n widths is h value =
       inr (n % 2 ^ w, refl,

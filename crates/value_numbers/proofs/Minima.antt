@@ -1,7 +1,7 @@
 -- Minima and maxima: the values of what is formed are what the rows give.
-use Rattle.std.proofs.Common.{◌≡◌, ℕ, ◌^◌, ◌<◌, nat_le, cond, min, max, not, Bool, true, false, Option, Some, None}
+use Rattle.std.proofs.Common.{◌≡◌, ℕ, ◌^◌, ◌<◌, nat_le, nat_lt, cond, min, max, not, Bool, true, false, Option, Some, None}
 use Rattle.std.proofs.Common.{ℤ, pos, negsuc, int_lt, int_le, refl, sym, ap, ◌∙◌, arith, inr, subst}
-use Rattle.std.proofs.lemmas.Bool.{cond_both, leb-true, leb-false}
+use Rattle.std.proofs.lemmas.Bool.{cond_both, cond-true, cond-false, leb-true, leb-false, lt-ltb, le-ltb}
 use Rattle.scev_base.specs.Residue.{reading}
 use Rattle.scev_tree.specs.declared.kind.Kind.{Kind}
 use Rattle.scev_tree.specs.declared.kind.Kind.TheVariants as kind
@@ -36,8 +36,18 @@ is_minimum Smin = tt
 is_minimum Smax = tt
 
 -- at most is not more
+turned_numbers : (a b m n : ℕ) → cond (nat_le a b) m n ≡ cond (nat_lt b a) n m
+turned_numbers a b m n =
+    cond_both (nat_le a b) m n (λ k. k ≡ cond (nat_lt b a) n m)
+    (λ yes. sym (cond-false (nat_lt b a) n m (le-ltb b a (leb-true a b yes))))
+    (λ no. sym (cond-true (nat_lt b a) n m (lt-ltb b a (leb-false a b no))))
+
+-- of integers too
 turned_test : (i j : ℤ) (m n : ℕ) → cond (int_le i j) m n ≡ cond (int_lt j i) n m
-turned_test i j m n = ?
+turned_test (pos a) (pos b) m n = turned_numbers a b m n
+turned_test (pos a) (negsuc b) m n = refl
+turned_test (negsuc a) (pos b) m n = refl
+turned_test (negsuc a) (negsuc b) m n = turned_numbers b a m n
 
 -- the row gives the number that the kind chooses
 row_chooses : (mm : MinMax) (w m n : ℕ)

@@ -22,7 +22,10 @@ use Rattle.value_numbers.proofs.Ones.{xor_ones}
 -- a number once less than so often
 once_less : (k n : ℕ) → 0 < k → (k - 1) * n + n ≡ k * n
 once_less zero n some = absurd (omega arith)
-once_less (suc k) n some = omega arith
+once_less (suc k) n some =
+    let once : k * n + n ≡ suc k * n = omega arith in
+    let same : suc k - 1 ≡ k = omega arith in
+    ap (λ j. j * n + n) same ∙ once
 
 -- -1 times a number is added where the number is subtracted
 minus_one_times : (w m n : ℕ) → n < 2 ^ w

@@ -71,9 +71,9 @@ operand_held registers choice w operand.Poison s a from h = absurd cc
 pub number_told : (n : ℕ) (x : Option ℕ) → Denotes (Some (value.Number n)) x → x ≡ Some n
 number_told n x told =
     elim told [
-      | inl poison ↦ absurd cc poison
+      | inl poison ↦ absurd (cc poison)
       | inr number ↦
-          let same := number.1 in
+          let same = number.1 in
           let here : number.0 ≡ n = cc same in
           number.2 ∙ ap Some here
     ]
