@@ -17,7 +17,7 @@ use Rattle.ir_meaning.specs.declared.value.Value.TheVariants as value
 use Rattle.ir_meaning.specs.Rows.{converted}
 use Rattle.value_exprs.specs.Steps.{formed_cast}
 use Rattle.value_exprs.specs.WellMade.{AreCastWidths}
-use Rattle.value_numbers.specs.Denotes.{Denotes}
+use Rattle.value_truth.specs.Truth.{Denotes}
 use Rattle.value_numbers.proofs.Told.{number_told, unless_poison}
 
 module _ (held : ℕ → Option ℕ) (turns : ℕ → ℕ) (parents : List (Option ℕ)) (v w : ℕ) (some : 0 < v) (more : 0 < w)

@@ -21,7 +21,8 @@ use Rattle.value_view.specs.declared.given.Given.TheVariants as given
 use Rattle.value_view.specs.Givens.{source_of, pair_of, given_cast, given_by}
 use Rattle.value_exprs.specs.Steps.{formed_cast}
 use Rattle.value_exprs.specs.WellMade.{AreCastWidths}
-use Rattle.value_numbers.specs.Denotes.{Denotes, held_by}
+use Rattle.value_truth.specs.Truth.{Denotes}
+use Rattle.value_numbers.specs.Held.{held_by}
 use Rattle.value_numbers.specs.Typed.{IsOfWidth}
 use Rattle.value_numbers.proofs.Told.{one_given, operand_held}
 use Rattle.value_numbers.proofs.Givens.{cast_parts, pair_no_cast, call_no_cast}

@@ -33,7 +33,8 @@ use Rattle.value_view.specs.Givens.{source_of, pair_of, minimum_of, given_pair, 
 use Rattle.value_view.specs.Givens.{given_by}
 use Rattle.value_exprs.specs.Steps.{formed_pair, formed_cast}
 use Rattle.value_exprs.specs.WellMade.{AreCastWidths}
-use Rattle.value_numbers.specs.Denotes.{Denotes, held_by}
+use Rattle.value_truth.specs.Truth.{Denotes}
+use Rattle.value_numbers.specs.Held.{held_by}
 use Rattle.value_numbers.specs.Typed.{IsOfWidth}
 use Rattle.value_numbers.proofs.Told.{two_given, one_given, given_some, operand_held, on_operands, Follows}
 use Rattle.value_numbers.proofs.Sums.{sum_row, or_row, product_row, difference_row, differing_row}

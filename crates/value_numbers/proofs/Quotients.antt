@@ -17,7 +17,7 @@ use Rattle.ir_meaning.specs.declared.value.Value.{Value}
 use Rattle.ir_meaning.specs.declared.value.Value.TheVariants as value
 use Rattle.ir_meaning.specs.Rows.{shifted_left, shifted_right, divided, by_divisor, on_numbers}
 use Rattle.value_exprs.specs.Steps.{shifted_up, shifted_down}
-use Rattle.value_numbers.specs.Denotes.{Denotes}
+use Rattle.value_truth.specs.Truth.{Denotes}
 use Rattle.value_numbers.proofs.Told.{number_told, on_operands, unless_poison, Follows, lifted_is}
 
 -- a quotient by a number that isn't 0

@@ -16,7 +16,8 @@ use Rattle.ir_meaning.specs.Step.{Computed, Gives, with_value, given}
 use Rattle.value_view.specs.declared.source.Source.{Source}
 use Rattle.value_view.specs.declared.source.Source.TheVariants.{Number, Register}
 use Rattle.value_view.specs.Givens.{source_of}
-use Rattle.value_numbers.specs.Denotes.{Denotes, held_by}
+use Rattle.value_truth.specs.Truth.{Denotes}
+use Rattle.value_numbers.specs.Held.{held_by}
 
 -- ---- operands
 
