@@ -1,6 +1,6 @@
 -- Minima and maxima: the values of what is formed are what the rows give.
-use Rattle.std.proofs.Common.{◌≡◌, ℕ, ◌^◌, ◌<◌, nat_le, nat_lt, cond, min, max, not, Bool, true, false, Option, Some, None}
-use Rattle.std.proofs.Common.{ℤ, pos, negsuc, int_lt, int_le, refl, sym, ap, ◌∙◌, arith, inr, subst}
+use Rattle.std.proofs.Common.{◌≡◌, ℕ, ◌^◌, ◌<◌, nat_le, nat_lt, cond, min, max, Option, Some}
+use Rattle.std.proofs.Common.{ℤ, pos, negsuc, int_lt, int_le, refl, sym, ap, ◌∙◌, arith, inr}
 use Rattle.std.proofs.lemmas.Bool.{cond_both, cond-true, cond-false, leb-true, leb-false, lt-ltb, le-ltb}
 use Rattle.scev_base.specs.Residue.{reading}
 use Rattle.scev_tree.specs.declared.kind.Kind.{Kind}
@@ -15,11 +15,8 @@ use Rattle.scev_forms.proofs.Choices.{kind_chooses}
 use Rattle.scev_forms.proofs.Minima.{minimum_value}
 use Rattle.ir_model.specs.declared.min_max.MinMax.{MinMax}
 use Rattle.ir_model.specs.declared.min_max.MinMax.TheVariants.{Umin, Umax, Smin, Smax}
-use Rattle.ir_meaning.specs.declared.value.Value.{Value}
 use Rattle.ir_meaning.specs.declared.value.Value.TheVariants as value
 use Rattle.ir_meaning.specs.Rows.{min_max_row}
-use Rattle.value_view.specs.Givens.{minimum_of}
-use Rattle.value_exprs.specs.Steps.{formed_pair}
 use Rattle.value_numbers.proofs.Told.{Follows, lifted_is}
 
 -- the kind of a minimum or maximum
@@ -29,20 +26,21 @@ kind_of Umax = kind.Umax
 kind_of Smin = kind.Smin
 kind_of Smax = kind.Smax
 
+-- it is one of a minimum or a maximum
 pub is_minimum : (mm : MinMax) → IsMinimum (kind_of mm)
 is_minimum Umin = tt
 is_minimum Umax = tt
 is_minimum Smin = tt
 is_minimum Smax = tt
 
--- at most is not more
+-- what is chosen where one number is at most another is chosen the other way where that one is less
 turned_numbers : (a b m n : ℕ) → cond (nat_le a b) m n ≡ cond (nat_lt b a) n m
 turned_numbers a b m n =
     cond_both (nat_le a b) m n (λ k. k ≡ cond (nat_lt b a) n m)
     (λ yes. sym (cond-false (nat_lt b a) n m (le-ltb b a (leb-true a b yes))))
     (λ no. sym (cond-true (nat_lt b a) n m (lt-ltb b a (leb-false a b no))))
 
--- of integers too
+-- so it is of integers
 turned_test : (i j : ℤ) (m n : ℕ) → cond (int_le i j) m n ≡ cond (int_lt j i) n m
 turned_test (pos a) (pos b) m n = turned_numbers a b m n
 turned_test (pos a) (negsuc b) m n = refl
@@ -80,5 +78,9 @@ minimum_row held turns mm w x y tree some l r h m n left right =
     let choice = chosen (kind_of mm) w m n in
     let given = row_chooses mm w m n some (number_small held turns w x m l left)
     (number_small held turns w y n r right) in
-    inr (choice, ap Some given, minimum_value held turns (kind_of mm) w x y tree choice (is_minimum mm) some l r h
-    (lifted_is _ _ _ m n left right))
+    inr (
+      choice,
+      ap Some given,
+      minimum_value held turns (kind_of mm) w x y tree choice (is_minimum mm) some l r h
+          (lifted_is _ _ _ m n left right),
+    )

@@ -1,18 +1,15 @@
 -- What an operation gives, of what is told of its operands.
-use Rattle.std.proofs.Common.{◌≡◌, ℕ, ◌<◌, ◌≤◌, ◌&&◌, nat_le, Bool, true, false, List, [], ◌∷◌, Option, Some, None}
-use Rattle.std.proofs.Common.{refl, sym, ap, ◌∙◌, arith, inl, inr, subst}
-use Rattle.std.proofs.lemmas.Bool.{cond_both}
+use Rattle.std.proofs.Common.{◌≡◌, ℕ, ◌<◌, Bool, true, List, [], ◌∷◌, Option, Some, None}
+use Rattle.std.proofs.Common.{ap, ◌∙◌, subst}
 use Rattle.scev_tree.specs.Tree.{Tree}
 use Rattle.scev_tree.specs.Value.{tree_value}
 use Rattle.scev_forms.specs.Trees.{IsTreeOf}
 use Rattle.scev_forms.specs.Outcome.{Done}
-use Rattle.ir_model.specs.declared.types.IrType.{IrType}
-use Rattle.ir_model.specs.declared.types.IrType.TheVariants.{Int, Ptr}
+use Rattle.ir_model.specs.declared.types.IrType.TheVariants.{Int}
 use Rattle.ir_model.specs.declared.op.Operand.{Operand}
 use Rattle.ir_model.specs.declared.op.TypedOperand.{TypedOperand}
 use Rattle.ir_model.specs.declared.op.BinOp.{BinOp}
 use Rattle.ir_model.specs.declared.op.BinOp.TheVariants as binary
-use Rattle.ir_model.specs.declared.op.CastOp.{CastOp}
 use Rattle.ir_model.specs.declared.op.Op.{Op}
 use Rattle.ir_model.specs.declared.op.Op.TheVariants.{Binary, Cast, Call}
 use Rattle.ir_model.specs.declared.min_max.MinMax.{MinMax}
@@ -21,22 +18,20 @@ use Rattle.ir_model.specs.Callees.{min_max_named}
 use Rattle.ir_meaning.specs.declared.value.Value.{Value}
 use Rattle.ir_meaning.specs.State.{Registers}
 use Rattle.ir_meaning.specs.Operands.{operand_value}
-use Rattle.ir_meaning.specs.Rows.{binary_row, on_numbers, min_max_row, converted, added}
+use Rattle.ir_meaning.specs.Rows.{binary_row, on_numbers, min_max_row, added}
 use Rattle.ir_meaning.specs.Rows.{subtracted, multiplied, shifted_left, shifted_right, disjoined, exclusive}
 use Rattle.ir_meaning.specs.Step.{computed, called, given, Gives}
 use Rattle.value_view.specs.declared.source.Source.{Source}
 use Rattle.value_view.specs.declared.given.Pair.{Pair}
 use Rattle.value_view.specs.declared.given.Pair.TheVariants as pair
-use Rattle.value_view.specs.declared.given.Given.{Given}
 use Rattle.value_view.specs.declared.given.Given.TheVariants as given
-use Rattle.value_view.specs.Givens.{source_of, pair_of, minimum_of, given_pair, given_source, given_cast, given_call}
+use Rattle.value_view.specs.Givens.{source_of, pair_of, minimum_of, given_pair, given_call}
 use Rattle.value_view.specs.Givens.{given_by}
-use Rattle.value_exprs.specs.Steps.{formed_pair, formed_cast}
-use Rattle.value_exprs.specs.WellMade.{AreCastWidths}
+use Rattle.value_exprs.specs.Steps.{formed_pair}
 use Rattle.value_truth.specs.Truth.{Denotes}
 use Rattle.value_numbers.specs.Held.{held_by}
 use Rattle.value_numbers.specs.Typed.{IsOfWidth}
-use Rattle.value_numbers.proofs.Told.{two_given, one_given, given_some, operand_held, on_operands, Follows}
+use Rattle.value_numbers.proofs.Told.{two_given, given_some, operand_held, on_operands, Follows}
 use Rattle.value_numbers.proofs.Sums.{sum_row, or_row, product_row, difference_row, differing_row}
 use Rattle.value_numbers.proofs.Quotients.{up_row, down_row, quotient_row}
 use Rattle.value_numbers.proofs.Minima.{minimum_row}

@@ -1,6 +1,6 @@
 -- Shifts and quotients: the values of what is formed are what the rows give.
 use Rattle.std.proofs.Common.{◌≡◌, ℕ, zero, suc, ◌*◌, ◌/◌, ◌%◌, ◌^◌, ◌<◌, ◌==◌, nat_lt, Bool}
-use Rattle.std.proofs.Common.{List, Option, Some, None, refl, sym, ap, ◌∙◌, arith, subst}
+use Rattle.std.proofs.Common.{List, Option, Some, None, refl, ap, ◌∙◌, arith, subst}
 use Rattle.std.proofs.lemmas.Bool.{cond_both, eqb-false, ltb-true}
 use Rattle.std.proofs.lemmas.Nat.{pow_pos, pow_below}
 use Rattle.scev_tree.specs.Tree.{Tree, constant}

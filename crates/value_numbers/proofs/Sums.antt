@@ -8,7 +8,7 @@ use Rattle.scev_base.proofs.Congruence.{mod_same}
 use Rattle.scev_tree.specs.Tree.{Tree, constant}
 use Rattle.scev_tree.specs.Value.{tree_value}
 use Rattle.scev_forms.specs.Trees.{IsTreeOf}
-use Rattle.scev_forms.specs.Outcome.{Outcome, Done}
+use Rattle.scev_forms.specs.Outcome.{Done}
 use Rattle.scev_forms.specs.Atoms.{number_of}
 use Rattle.scev_forms.specs.Sums.{tree_sum, tree_product}
 use Rattle.scev_forms.proofs.Atoms.{constant_is_tree, constant_same, number_value, number_small}
@@ -134,9 +134,11 @@ module _ (held : ℕ → Option ℕ) (turns : ℕ → ℕ) (parents : List (Opti
       → (k ≡ 2 ^ w - 1) × (tree_value held turns tree ≡ Some (bit_xor m (2 ^ w - 1)))
   ones_less x y tree k m l r ones h left right =
       let number = (number_value held turns x (2 ^ w - 1) l.1 (all_ones w (number_of x) ones)).0 in
-      let same : k ≡ 2 ^ w - 1 = cc in
-      (same, difference_value x y tree (2 ^ w - 1) m l r h number right
-      ∙ ap Some (complement w m (number_small held turns w y m r right)))
+      let same : k ≡ 2 ^ w - 1 = cc in (
+        same,
+        difference_value x y tree (2 ^ w - 1) m l r h number right
+            ∙ ap Some (complement w m (number_small held turns w y m r right)),
+      )
 
   -- `xor`
   pub differing_row : (x y tree : Tree)
@@ -145,16 +147,20 @@ module _ (held : ℕ → Option ℕ) (turns : ℕ → ℕ) (parents : List (Opti
       → differing parents w x y ≡ Some (Done tree)
       → Follows exclusive (tree_value held turns x) (tree_value held turns y) (tree_value held turns tree)
   differing_row x y tree l r h m n left right =
-      inr (bit_xor m n, refl, cond_both (is_all_ones w (number_of y)) (Some (difference parents w y x)) _
-      (λ o. o ≡ Some (Done tree) → tree_value held turns tree ≡ Some (bit_xor m n))
-      (λ ones formed.
-      let its = ones_less y x tree n m r l ones (cc) right left in
-      its.1 ∙ ap (λ k. Some (bit_xor m k)) (sym its.0))
-      (λ _ other. cond_both (is_all_ones w (number_of x)) (Some (difference parents w x y)) None
-      (λ o. o ≡ Some (Done tree) → tree_value held turns tree ≡ Some (bit_xor m n))
-      (λ ones formed.
-      let its = ones_less x y tree m n l r ones (cc) left right in
-      its.1 ∙ ap Some (xor_comm n (2 ^ w - 1)) ∙ ap (λ k. Some (bit_xor k n)) (sym its.0))
-      (λ _ none. absurd cc)
-      other)
-      h)
+      inr (
+        bit_xor m n,
+        refl,
+        cond_both (is_all_ones w (number_of y)) (Some (difference parents w y x)) _
+            (λ o. o ≡ Some (Done tree) → tree_value held turns tree ≡ Some (bit_xor m n))
+            (λ ones formed.
+            let its = ones_less y x tree n m r l ones (cc) right left in
+            its.1 ∙ ap (λ k. Some (bit_xor m k)) (sym its.0))
+            (λ _ other. cond_both (is_all_ones w (number_of x)) (Some (difference parents w x y)) None
+            (λ o. o ≡ Some (Done tree) → tree_value held turns tree ≡ Some (bit_xor m n))
+            (λ ones formed.
+            let its = ones_less x y tree m n l r ones (cc) left right in
+            its.1 ∙ ap Some (xor_comm n (2 ^ w - 1)) ∙ ap (λ k. Some (bit_xor k n)) (sym its.0))
+            (λ _ none. absurd cc)
+            other)
+            h,
+      )
