@@ -1,0 +1,9 @@
+pub mod Told
+pub mod Givens
+pub mod Sums
+pub mod Ones
+pub mod Quotients
+pub mod Minima
+pub mod Casts
+pub mod Pairs
+pub mod Conversions

@@ -1,5 +1,5 @@
 -- What an operand is.
-use Rattle.std.specs.Prelude.{ℕ, Option, Some}
+use Rattle.std.specs.Prelude.{Option, Some}
 use Rattle.ir_meaning.specs.declared.value.Value.{Value}
 use Rattle.ir_meaning.specs.declared.value.Value.TheVariants as value
 use Rattle.ir_meaning.specs.State.{Registers}
