@@ -34,9 +34,9 @@ pub record Reads (block : Block) (result v : ℕ) : Type 0 where
   pub gives : instr.result ≡ Some (record { 0 = result })
   pub reads : Contains (flat_map register_of (operands instr.op)) v
 
--- In reachable blocks each operand of an instruction other than a phi has a lower rank than the instruction's result. What
--- is defined in a block that dominates another one has a lower rank than what is defined in the other one; and what no
--- instruction defines has a lower rank than what one does.
+-- In reachable blocks each operand of an instruction other than a phi has a lower rank than the instruction's result.
+-- What is defined in a block that dominates another one has a lower rank than what is defined in the other one; and
+-- what no instruction defines has a lower rank than what one does.
 pub record AreRanks (f : Function) (ranks : List ℕ) : Type 0 where
   pub reads : (b result v : ℕ) (block : Block) → Reachable f b → block_of f b ≡ Some block → Reads block result v
       → slice_index_or ranks v 0 < slice_index_or ranks result 0
