@@ -79,7 +79,8 @@ impl LoopTable {
     {
         match self.parents.get(l.0 as usize) {
             Some(Some(parent)) => Some(LoopId(*parent)),
-            _ => None,
+            Some(None) => None,
+            None => None,
         }
     }
 
