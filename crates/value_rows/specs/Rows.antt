@@ -54,8 +54,8 @@ pub record IsHeaderPhi (f : Function) (h w : ℕ) (entries : List PhiEntry) (sta
   pub is_loop : IsLoop f loop_
   pub header : loop_.header ≡ h
   pub sources : (entry : PhiEntry) → Contains entries entry → source_of w entry.value ≢ None
-  pub start : IsOneSource f loop_ false w entries start
-  pub back : IsOneSource f loop_ true w entries back
+  pub starts : IsOneSource f loop_ false w entries start
+  pub turns : IsOneSource f loop_ true w entries back
 
 -- what a phi gives
 abbrev pub IsPhiGiven : Function → ℕ → ℕ → List PhiEntry → Given → Type 0
