@@ -1,1 +1,3 @@
 mod RegisterLemmas
+mod Noted
+mod RowLemmas

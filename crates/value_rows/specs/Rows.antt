@@ -75,11 +75,11 @@ IsGivenAt f b w op g = g ≡ given_by w op
 pub record IsRowAt (f : Function) (b : BlockId) (w : ℕ) (op : Op) (row : Row) : Type 0 where
   pub block : row.block ≡ Some b
   pub width : row.bits ≡ w
-  pub given : Reachable f b.0 → 1 ≤ w → w ≤ 64 → IsGivenAt f b.0 w op row.given
   pub unreached : (Reachable f b.0 → ⊥) → row.given ≡ given.Opaque
   pub no_integer : (w ≡ 0) ⊎ (64 < w) → row.given ≡ given.Opaque
   pub nuw : row.nuw ≡ has_nuw op
   pub nsw : row.nsw ≡ has_nsw op
+  pub given : Reachable f b.0 → 1 ≤ w → w ≤ 64 → IsGivenAt f b.0 w op row.given
 
 pub record IsRowOf (f : Function) (v : ℕ) (row : Row) : Type 0 where
   pub bare : ((b : BlockId) (i : ℕ) → definition_of f v ≡ At b i → ⊥) → row ≡ bare_row (bits (kind_at f v))

@@ -10,7 +10,7 @@ ghost use Rattle.value_rows.specs.Rows.{AreRows, IsRowAt, IsGivenAt, kind_at};
 use crate::header_phi::phi_given;
 use ir_model::{Function, Instr, IrType, Op};
 use natural_loops::LoopTable;
-use scev_base::{BlockId, Width};
+use scev_base::{BlockId, ValueId, Width};
 use sqlite_items::Items;
 use ssa_check::Checked;
 use std::alloc::{AllocError, Global};
@@ -23,7 +23,6 @@ pub fn rows(alloc: Global, c: &Checked, loops: &LoopTable) -> Result<Items<Row>,
     ensures { IfOk result (λ rows. AreRows c.now.function rows) }
 {
     let f = c.function();
-    let values = f.values.as_slice();
     let blocks = f.blocks.as_slice();
     let mut rows = bare_rows(alloc, f)?;
     for block in blocks {
@@ -31,7 +30,7 @@ pub fn rows(alloc: Global, c: &Checked, loops: &LoopTable) -> Result<Items<Row>,
         let instrs = block.instrs.as_slice();
         for instr in instrs {
             if let Some(v) = instr.result {
-                let bits = bits_of(&values[v.0 as usize].kind);
+                let bits = bits_at(f, v);
                 rows[v.0 as usize] = row_of(c, loops, block.id, is_reachable, instr, bits);
             }
         }
@@ -50,6 +49,16 @@ fn bare_rows(alloc: Global, f: &Function) -> Result<Vec<Row>, AllocError>
         rows.push(Row::bare(bits_of(&value.kind)))?;
     }
     Ok(rows)
+}
+
+/// How many bits a value has, and 0 where it is no integer.
+fn bits_at(f: &Function, v: ValueId) -> u32
+    ensures { result ≡ bits (kind_at f.now v.0) }
+{
+    match f.values.get(v.0 as usize) {
+        Some(value) => bits_of(&value.kind),
+        None => 0,
+    }
 }
 
 /// How many bits an integer has, and 0 of any other type.
