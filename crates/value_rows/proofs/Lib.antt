@@ -1,3 +1,4 @@
 mod RegisterLemmas
 mod Noted
 mod RowLemmas
+mod OneSide

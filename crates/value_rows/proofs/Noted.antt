@@ -78,24 +78,30 @@ GivenBlock blocks v b i = (k : ℕ) × (given : Gives blocks v k i) × (given.bl
 
 given_block : (blocks : List Block) (v : ℕ) (b : BlockId) (i : ℕ) → given_at blocks v ≡ Some (b, i)
     → GivenBlock blocks v b i
-unfolding GivenBlock
+unfolding GivenBlock GivesAt
 given_block [] v b i is = absurd (none-some (b, i) is)
-given_block (first ∷ blocks) v b i is = go (given_in first.instrs v) refl is
+given_block (first ∷ blocks) v b i is =
+    go (given_in first.instrs v) refl (λ there. given_block blocks v b i there) is
   where
-    go : (found : Option ℕ) → given_in first.instrs v ≡ found → in_block first.id found (given_at blocks v) ≡ Some (b, i)
-        → GivenBlock (first ∷ blocks) v b i
-    unfolding GivenBlock GivesAt
-    go None e there =
-        let rest = given_block blocks v b i there in
-        (suc rest.0, record { block = rest.1.block; at = rest.1.at; instr = rest.1.instr; stands = rest.1.stands;
-        gives = rest.1.gives }, rest.2)
-    go (Some j) e there =
+    go : (found : Option ℕ) → given_in first.instrs v ≡ found
+        → (given_at blocks v ≡ Some (b, i) → GivenBlock blocks v b i)
+        → in_block first.id found (given_at blocks v) ≡ Some (b, i) → GivenBlock (first ∷ blocks) v b i
+    go None e later there =
+        let rest = later there in
+        let given = rest.1 in (
+          suc rest.0,
+          record { block = given.block; at = given.at; instr = given.instr; stands = given.stands; gives = given.gives },
+          rest.2,
+        )
+    go (Some j) e later there =
         let pair = same_Some (first.id, j) (b, i) there in
         let own = given_is first.instrs v j e in
         let index : j ≡ i = ap (λ (p : BlockId × ℕ). p.1) pair in
-        (0, record { block = first; at = refl; instr = own.0;
-        stands = subst (λ (k : ℕ). slice_get first.instrs k ≡ Some own.0) index own.1; gives = own.2 },
-        ap (λ (p : BlockId × ℕ). p.0) pair)
+        let stands = subst (λ (k : ℕ). slice_get first.instrs k ≡ Some own.0) index own.1 in (
+          0,
+          record { block = first; at = refl; instr = own.0; stands = stands; gives = own.2 },
+          ap (λ (p : BlockId × ℕ). p.0) pair,
+        )
 
 -- ---- one definition
 

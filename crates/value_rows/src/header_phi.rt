@@ -92,7 +92,11 @@ pub(crate) fn is_from(
     ensures { (region : RegionParts) → slice_get loops.now.regions l.0 ≡ Some region
         → IsTrue result ↔ IsFrom c.now.function (loop_of region) inside entry.now }
 {
-    c.flow().reachable(entry.from) && loops.holds(l, entry.from) == inside
+    let held = loops.holds(l, entry.from);
+    if !c.flow().reachable(entry.from) {
+        return false;
+    }
+    if inside { held } else { !held }
 }
 
 /// Whether an operand is the one that was found before, if one was.
