@@ -2,3 +2,4 @@ mod RegisterLemmas
 mod Noted
 mod RowLemmas
 mod OneSide
+mod HeaderPhis
