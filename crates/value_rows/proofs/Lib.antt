@@ -3,3 +3,4 @@ mod Noted
 mod RowLemmas
 mod OneSide
 mod HeaderPhis
+mod TurnLemmas

@@ -22,6 +22,7 @@ use Rattle.ssa_check.specs.Tables.{definition_of, at_place, AreWithin}
 use Rattle.ssa_check.proofs.DefinitionLemmas.{given_in, position_cons, result_within, defined_in_table}
 use Rattle.ssa_check.proofs.Elements.{contains_at}
 use Rattle.ssa_check.proofs.OnceDefined.{blocks_once, defined_there}
+use Rattle.value_rows.specs.Reads.{IsDefinedBy}
 
 abbrev pub value_id : ℕ → ValueId
 value_id v = record { 0 = v }
@@ -149,6 +150,23 @@ module _ (f : Function) (once : duplicate_names f ≡ []) where
       subst (λ (n : ℕ). slice_get h.block.instrs n ≡ Some g.instr) both.1
       (subst (λ (b : Block). slice_get b.instrs i ≡ Some g.instr) block g.stands) in
       (block, same_Some g.instr h.instr (sym here ∙ h.stands))
+
+  -- an instruction defines a value, or none does
+  pub defined_cases : (v : ℕ) → ((b : BlockId) (i : ℕ) → definition_of f v ≡ At b i → ⊥)
+      ⊎ ((b : BlockId) × (instr : Instr) × IsDefinedBy f v b instr)
+  unfolding GivenBlock
+  defined_cases v = go (definition_of f v) refl
+    where
+      go : (o : Definition) → definition_of f v ≡ o → ((b : BlockId) (i : ℕ) → definition_of f v ≡ At b i → ⊥)
+          ⊎ ((b : BlockId) × (instr : Instr) × IsDefinedBy f v b instr)
+      go Nowhere is = inl (λ b i e. let other : Nowhere ≡ At b i = sym is ∙ e in absurd (cc))
+      go Parameter is = inl (λ b i e. let other : Parameter ≡ At b i = sym is ∙ e in absurd (cc))
+      go (At b i) is =
+          let given = definition_gives v b i is in
+          let g = given.1 in
+          let there : block_of f b.0 ≡ Some g.block =
+          ap (λ (c : BlockId). block_of f c.0) (sym given.2) ∙ itself g.block given.0 g.at in
+          inr (b, g.instr, record { at = i; block = g.block; is = is; there = there; stands = g.stands })
 
 -- ---- the pass
 
