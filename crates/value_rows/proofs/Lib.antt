@@ -4,3 +4,5 @@ mod RowLemmas
 mod OneSide
 mod HeaderPhis
 mod TurnLemmas
+mod LowBits
+mod OneOperand

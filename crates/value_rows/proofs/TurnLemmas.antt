@@ -1,8 +1,8 @@
 -- Phis that count for groups, noted by a pass over a function.
 use Rattle.std.proofs.Common.{◌≡◌, ◌↔◌, ℕ, ◌≤◌, Bool, true, false, List, [], length, get_or, replicate, sym, ap, ◌∙◌, subst}
-use Rattle.std.proofs.Common.{inl, inr}
-use Rattle.std.proofs.lemmas.Bool.{false≢true}
-use Rattle.std.proofs.lemmas.List.{length-replicate, get_or-replicate}
+use Rattle.std.proofs.Common.{inl, inr, arith}
+use Rattle.std.proofs.lemmas.Bool.{false≢true, cases_lt}
+use Rattle.std.proofs.lemmas.List.{length-replicate, get_or-replicate, get_or_past}
 use Rattle.scev_base.specs.declared.ids.BlockId.{BlockId}
 use Rattle.ir_model.specs.declared.function.Instr.{Instr}
 use Rattle.ir_model.specs.declared.function.Function.{Function}
@@ -20,12 +20,19 @@ IsTurnFor f b instr v turn = turn ≡ true ↔ IsTurnBy f b.0 instr.op
 abbrev pub AreTurnsTo : Function → ℕ → ℕ → List Bool → Type 0
 AreTurnsTo f n m turns = IsNoted Bool f false no_turn (IsTurnFor f) n m turns
 
+replicate_at : (n v : ℕ) → get_or (replicate n false) v false ≡ false
+replicate_at n v =
+    elim (cases_lt v n) [
+      | inl less ↦ get_or-replicate n v false false less
+      | inr past ↦ get_or_past (replicate n false) v false (omega (arith, past, length-replicate n false))
+    ]
+
 module _ (f : Function) (turns : List Bool) where
   pub turns_none : turns ≡ replicate (length f.values) false → AreTurnsTo f 0 0 turns
   turns_none is =
       noted_none Bool f false no_turn (IsTurnFor f) turns
       (ap (λ (xs : List Bool). length xs) is ∙ length-replicate (length f.values) false)
-      (λ v. ap (λ (xs : List Bool). get_or xs v false) is ∙ get_or-replicate (length f.values) v false)
+      (λ v. ap (λ (xs : List Bool). get_or xs v false) is ∙ replicate_at (length f.values) v)
 
   pub turns_all : duplicate_names f ≡ [] → (n : ℕ) → length f.blocks ≤ n → AreTurnsTo f n 0 turns → (v : ℕ)
       → get_or turns v false ≡ true ↔ IsTurnAt f v

@@ -1,6 +1,6 @@
 use Rattle.std.proofs.Common.{min, ap, ◌∙◌}
 use Rattle.scev_base.specs.Residue.{residue}
-use Rattle.ir_check.proofs.LowBits.{all_bits, some_bits}
+use Rattle.value_rows.proofs.LowBits.{all_bits, some_bits}
 use Rattle.value_rows.proofs.operands.low_bits.Goals as goal
 
 pub returns-then-width-ge128 : goal.returns-then-width-ge128

@@ -1,7 +1,7 @@
 use mir.Syntax.{w128}
 use Rattle.std.proofs.lemmas.Int.{to_z-of_z}
 use Rattle.ir_rules.specs.Types.{width_of}
-use Rattle.ir_check.proofs.LowBits.{same_low}
+use Rattle.value_rows.proofs.LowBits.{same_low}
 use Rattle.value_rows.proofs.operands.same_number.Goals as goal
 
 pub returns : goal.returns

@@ -15,7 +15,8 @@ use Rattle.value_rows.proofs.turns.turns.Goals as goal
 use Rattle.value_rows.proofs.turns.turns.Goals.{in-Some, in_default}
 
 pub loop-block-init : goal.loop-block-init
-loop-block-init c = ?
+loop-block-init c =
+    let e = c.in_ok-turns.ensures in let n = c.len.ensures in ?
 
 pub loop-instr-init : goal.loop-instr-init
 loop-instr-init c = c.loop-block.invariant
