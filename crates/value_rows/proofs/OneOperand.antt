@@ -2,6 +2,7 @@
 use Rattle.std.proofs.Common.{◌≡◌, ◌==◌, ◌⊎◌, ◌↔◌, ℕ, Bool, true, false, List, [], ◌∷◌, ◌++◌, Contains, Option, Some, None}
 use Rattle.std.proofs.Common.{pos, eqb-true, refl, sym, ap, ◌∙◌, subst, take, drop, take-append-drop, inl, inr, arith}
 use Rattle.std.proofs.lemmas.Bool.{false≢true, both_ways, eq-eqb}
+use Rattle.std.proofs.lemmas.Option.{none-some}
 use Rattle.std.proofs.lemmas.List.Elements.{Contains-push_cases, Contains-append_left, Contains-append_right}
 use Rattle.scev_base.specs.Residue.{residue}
 use Rattle.scev_base.specs.declared.ids.ValueId.{ValueId}
@@ -179,3 +180,16 @@ module _ (f : Function) (l : Loop) (inside : Bool) (kind : IrType) where
   pub operand_nothing : (entries : List PhiEntry) → IsFoundOperand entries None
       → ((operand : Operand) × IsOneOperand f l inside kind entries operand) → ⊥
   operand_nothing entries none any = none any.1.some.0 any.1.some.1 any.1.some.2
+
+  -- there is one operand where one was found
+  pub operand_all : (entries : List PhiEntry) (found : Option Operand) (test : Bool)
+      → (test ≡ true ↔ (found ≡ None → ⊥)) → IsFoundOperand entries found
+      → test ≡ true ↔ ((operand : Operand) × IsOneOperand f l inside kind entries operand)
+  operand_all entries (Some x) test says one = (
+    (λ h. (x, one)),
+    (λ any. says.1 (λ e. none-some x (sym e))),
+  )
+  operand_all entries None test says none = (
+    (λ h. absurd (says.0 h refl)),
+    (λ any. absurd (operand_nothing entries none any)),
+  )

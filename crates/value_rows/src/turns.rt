@@ -1,6 +1,7 @@
 //! Phis that count for groups.
 
-ghost use Rattle.std.specs.Prelude.{◌≡◌, ◌↔◌, ◌<◌, ℕ, true, false, length, slice_get, slice_index_or, Some, IfOk, IsTrue};
+ghost use Rattle.std.specs.Prelude.{◌≡◌, ◌≢◌, ◌↔◌, ◌<◌, ℕ, true, false, length, slice_get, slice_index_or};
+ghost use Rattle.std.specs.Prelude.{Some, None, IfOk, IsTrue};
 ghost use Rattle.ir_model.specs.declared.op.Operand.{Operand as AnyOperand};
 ghost use Rattle.natural_loops.specs.Table.{RegionParts, AreLoopsOf, loop_of};
 ghost use Rattle.value_rows.specs.Reads.{IsTurnAt, IsTurnBy, IsOneOperand};
@@ -84,5 +85,15 @@ fn has_one(
             }
         }
     }
-    found.is_some()
+    is_found(found)
+}
+
+/// Whether an operand was found.
+fn is_found(found: Option<Operand>) -> bool
+    ensures { IsTrue result ↔ (found ≢ None) }
+{
+    match found {
+        Some(_) => true,
+        None => false,
+    }
 }

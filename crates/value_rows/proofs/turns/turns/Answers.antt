@@ -1,5 +1,5 @@
 use Rattle.value_rows.specs.Reads.{IsTurnAt}
-use Rattle.std.proofs.Common.{◌↔◌, Bool, true, false, get_or}
+use Rattle.std.proofs.Common.{◌↔◌, Bool, true, false, get_or, replicate}
 use Rattle.std.proofs.Common.{◌≡◌, ◌<◌, ◌≤◌, ℕ, List, [], Some, length, slice_get, sym, ap, ◌∙◌, subst, arith}
 use Rattle.ir_model.specs.declared.function.Instr.{Instr}
 use Rattle.ir_model.specs.declared.function.Block.{Block}
@@ -16,7 +16,11 @@ use Rattle.value_rows.proofs.turns.turns.Goals.{in-Some, in_default}
 
 pub loop-block-init : goal.loop-block-init
 loop-block-init c =
-    let e = c.in_ok-turns.ensures in let n = c.len.ensures in ?
+    let f : Function = c.args.c.now.function in
+    let count : c.len.result ≡ length f.values =
+    c.len.ensures ∙ ap (λ (g : Function). length g.values) c.function-f.ensures.value in
+    turns_none f c.in_ok-turns.turns.items
+    (c.in_ok-turns.ensures.items_if_clones_equal (λ y is. is) ∙ ap (λ (k : ℕ). replicate k false) count)
 
 pub loop-instr-init : goal.loop-instr-init
 loop-instr-init c = c.loop-block.invariant
