@@ -65,9 +65,11 @@ given_is (first ∷ instrs) v i is =
     elim (cases_Bool (p first)) [
       | inl here ↦
           let zero_is : 0 ≡ i = same_Some 0 i
-          (subst (λ (t : Bool). cond t (Some 0) (option_map suc (given_in instrs v)) ≡ Some i) here step) in
-          (first, subst (λ (k : ℕ). slice_get (first ∷ instrs) k ≡ Some first) zero_is refl,
-          value_is first.result v here)
+          (subst (λ (t : Bool). cond t (Some 0) (option_map suc (given_in instrs v)) ≡ Some i) here step) in (
+            first,
+            subst (λ (k : ℕ). slice_get (first ∷ instrs) k ≡ Some first) zero_is refl,
+            value_is first.result v here,
+          )
       | inr other ↦
           later_at first instrs v (given_in instrs v) refl i (λ j e. given_is instrs v j e)
           (subst (λ (t : Bool). cond t (Some 0) (option_map suc (given_in instrs v)) ≡ Some i) other step)
@@ -270,8 +272,13 @@ module _ (X : Type 0) (f : Function) (d : X) (bare : ℕ → X) (R : BlockId →
               noted = λ v k i g before.
                   elim (cases_eq w.0 v) [
                     | inl is ↦
-                        let own_v : Gives f.blocks v n m = record { block = block; at = at; instr = instr;
-                        stands = stands; gives = gives ∙ ap (λ (k : ℕ). Some (value_id k)) is } in
+                        let own_v : Gives f.blocks v n m = record {
+                          block = block;
+                          at = at;
+                          instr = instr;
+                          stands = stands;
+                          gives = gives ∙ ap (λ (k : ℕ). Some (value_id k)) is;
+                        } in
                         let one = one_block f once v k i m n g own_v in
                         let put : get_or (set table w.0 x) v d ≡ x =
                         ap (λ (j : ℕ). get_or (set table w.0 x) j d) (sym is)
@@ -296,8 +303,13 @@ module _ (X : Type 0) (f : Function) (d : X) (bare : ℕ → X) (R : BlockId →
                   elim (cases_eq w.0 v) [
                     | inl is ↦
                         absurd
-                        (none n m (record { block = block; at = at; instr = instr; stands = stands;
-                        gives = gives ∙ ap (λ (k : ℕ). Some (value_id k)) is }) (inr (refl, omega arith)))
+                        (none n m (record {
+                          block = block;
+                          at = at;
+                          instr = instr;
+                          stands = stands;
+                          gives = gives ∙ ap (λ (k : ℕ). Some (value_id k)) is;
+                        }) (inr (refl, omega arith)))
                     | inr apart ↦
                         get_or-set_other table w.0 v x d (λ e. apart (sym e))
                         ∙ are.rest v (λ k i g before. none k i g (more_before k i before))

@@ -27,8 +27,10 @@ side_true f region entry held reachable is = (
 pub side_false : (f : Function) (region : RegionParts) (entry : PhiEntry) (held : Bool) → Reachable f entry.from.0
     → held ≡ get_or region.blocks entry.from.0 false → held ≡ false ↔ IsFrom f (loop_of region) false entry
 side_false f region entry held reachable is = (
-  (λ h. (reachable,
-      (λ there. false≢true (sym h ∙ is ∙ (marked_contains region.blocks entry.from.0).0 there)))),
+  (λ h. (
+    reachable,
+    (λ there. false≢true (sym h ∙ is ∙ (marked_contains region.blocks entry.from.0).0 there)),
+  )),
   (λ from. out held refl (λ h. from.1 ((marked_contains region.blocks entry.from.0).1 (sym is ∙ h)))),
 )
   where

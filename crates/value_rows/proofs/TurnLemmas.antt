@@ -43,12 +43,12 @@ module _ (f : Function) (turns : List Bool) where
               absurd
               (false≢true (sym (noted_bare Bool f false no_turn (IsTurnFor f) once n all turns are v none) ∙ marked))
           | inr d ↦ (
-              d.0,
-              d.1,
-              d.2,
-              (noted_at Bool f false no_turn (IsTurnFor f) once n all turns are v d.0 d.2.at d.2.block d.1 d.2.is
-                  d.2.there d.2.stands).0 marked,
-            )
+            d.0,
+            d.1,
+            d.2,
+            (noted_at Bool f false no_turn (IsTurnFor f) once n all turns are v d.0 d.2.at d.2.block d.1 d.2.is
+                d.2.there d.2.stands).0 marked,
+          )
         ]),
     (λ turn.
         (noted_at Bool f false no_turn (IsTurnFor f) once n all turns are v turn.0 turn.2.at turn.2.block turn.1

@@ -73,11 +73,7 @@ fn push_typed(operands: &[TypedOperand], found: &mut Items<ValueId>) -> Result<(
 }
 
 /// Adds the registers among two operands.
-fn push_two(
-    left: Operand,
-    right: Operand,
-    found: &mut Items<ValueId>,
-) -> Result<(), AllocError>
+fn push_two(left: Operand, right: Operand, found: &mut Items<ValueId>) -> Result<(), AllocError>
     ensures { OnOk result (found.new ≡ found.old ++ registers_of (left ∷ right ∷ [])) }
 {
     push_operand(left, found)?;
