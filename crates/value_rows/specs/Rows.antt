@@ -1,5 +1,6 @@
 -- What gives each value of a function.
-use Rattle.std.specs.Prelude.{◌≡◌, ◌≢◌, ◌⊎◌, ℕ, ◌<◌, ◌≤◌, Bool, true, false, List, All, Contains, length, Option, Some, None, slice_get}
+use Rattle.std.specs.Prelude.{◌≡◌, ◌≢◌, ◌⊎◌, ℕ, ◌<◌, ◌≤◌, Bool, true, false, List, Contains}
+use Rattle.std.specs.Prelude.{length, Option, Some, None, slice_get}
 use Rattle.scev_base.specs.declared.ids.BlockId.{BlockId}
 use Rattle.ir_model.specs.declared.types.IrType.{IrType}
 use Rattle.ir_model.specs.declared.types.IrType.TheVariants.{Void}
@@ -54,8 +55,8 @@ pub record IsHeaderPhi (f : Function) (h w : ℕ) (entries : List PhiEntry) (sta
   pub is_loop : IsLoop f loop_
   pub header : loop_.header ≡ h
   pub sources : (entry : PhiEntry) → Contains entries entry → source_of w entry.value ≢ None
-  pub start : IsOneSource f loop_ false w entries start
-  pub back : IsOneSource f loop_ true w entries back
+  pub starts : IsOneSource f loop_ false w entries start
+  pub turns : IsOneSource f loop_ true w entries back
 
 -- what a phi gives
 abbrev pub IsPhiGiven : Function → ℕ → ℕ → List PhiEntry → Given → Type 0
@@ -75,11 +76,11 @@ IsGivenAt f b w op g = g ≡ given_by w op
 pub record IsRowAt (f : Function) (b : BlockId) (w : ℕ) (op : Op) (row : Row) : Type 0 where
   pub block : row.block ≡ Some b
   pub width : row.bits ≡ w
-  pub given : Reachable f b.0 → 1 ≤ w → w ≤ 64 → IsGivenAt f b.0 w op row.given
   pub unreached : (Reachable f b.0 → ⊥) → row.given ≡ given.Opaque
   pub no_integer : (w ≡ 0) ⊎ (64 < w) → row.given ≡ given.Opaque
   pub nuw : row.nuw ≡ has_nuw op
   pub nsw : row.nsw ≡ has_nsw op
+  pub given : Reachable f b.0 → 1 ≤ w → w ≤ 64 → IsGivenAt f b.0 w op row.given
 
 pub record IsRowOf (f : Function) (v : ℕ) (row : Row) : Type 0 where
   pub bare : ((b : BlockId) (i : ℕ) → definition_of f v ≡ At b i → ⊥) → row ≡ bare_row (bits (kind_at f v))

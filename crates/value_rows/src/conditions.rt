@@ -32,8 +32,8 @@ pub(crate) fn conditions(
     Ok(Items::from_vec(conditions))
 }
 
-/// Adds what ends a block reads to the loops that it leaves: the innermost ones that have it. A block that stays in a loop
-/// stays in those around it.
+/// Adds what ends a block reads to the loops that it leaves: the innermost ones that have it. A block that stays in a
+/// loop stays in those around it.
 fn note_exits(
     alloc: Global,
     c: &Checked,

@@ -3,10 +3,11 @@
 
 mod conditions;
 mod header_phi;
+mod operands;
 mod reads;
 mod registers;
 mod turns;
 mod values;
-mod view;
+mod views;
 
-pub use view::view;
+pub use views::view;

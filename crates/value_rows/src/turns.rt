@@ -1,12 +1,16 @@
 //! Phis that count for groups.
 
-ghost use Rattle.std.specs.Prelude.{◌≡◌, ◌↔◌, ◌<◌, ℕ, true, false, length, slice_get, slice_index_or, Some, IfOk, IsTrue};
+ghost use Rattle.std.specs.Prelude.{◌≡◌, ◌≢◌, ◌↔◌, ◌<◌, ℕ, true, false, length, slice_get, slice_index_or};
+ghost use Rattle.std.specs.Prelude.{Some, None, IfOk, IsTrue};
+ghost use Rattle.ir_model.specs.declared.op.Operand.{Operand as AnyOperand};
 ghost use Rattle.natural_loops.specs.Table.{RegionParts, AreLoopsOf, loop_of};
-ghost use Rattle.value_rows.specs.Reads.{IsTurnAt, IsTurnBy, IsTurnPhi, IsOneOperand};
+ghost use Rattle.value_rows.specs.Reads.{IsTurnAt, IsTurnBy, IsOneOperand};
 
-use ir_model::{Block, IrType, Op, Operand, PhiEntry};
+use crate::header_phi::is_from;
+use crate::operands::same_operand;
+use ir_model::{IrType, Op, Operand, PhiEntry};
 use natural_loops::LoopTable;
-use scev_base::{BlockId, LoopId, Width, wrap};
+use scev_base::{BlockId, LoopId};
 use sqlite_items::Items;
 use ssa_check::Checked;
 use std::alloc::{AllocError, Global};
@@ -23,20 +27,17 @@ pub(crate) fn turns(
         → (slice_index_or turns v false ≡ true) ↔ IsTurnAt c.now.function v) }
 {
     let f = c.function();
+    let blocks = f.blocks.as_slice();
     let mut turns = vec![in alloc; false; f.values.len()]?;
-    for block in f.blocks.as_slice() {
-        note_block(c, loops, block, &mut turns);
-    }
-    Ok(Items::from_vec(turns))
-}
-
-/// Notes which instructions of a block are such phis.
-fn note_block(c: &Checked, loops: &LoopTable, block: &Block, turns: &mut Vec<bool>) {
-    for instr in block.instrs.as_slice() {
-        if let Some(v) = instr.result {
-            turns[v.0 as usize] = is_turn(c, loops, block.id, &instr.op);
+    for block in blocks {
+        let instrs = block.instrs.as_slice();
+        for instr in instrs {
+            if let Some(v) = instr.result {
+                turns[v.0 as usize] = is_turn(c, loops, block.id, &instr.op);
+            }
         }
     }
+    Ok(Items::from_vec(turns))
 }
 
 /// Whether an operation in a block is such a phi.
@@ -44,6 +45,7 @@ fn is_turn(c: &Checked, loops: &LoopTable, b: BlockId, op: &Op) -> bool
     requires { AreLoopsOf c.now.function loops.now }
     ensures { IsTrue result ↔ IsTurnBy c.now.function b.0 op.now }
 {
+    let _ = c.function();
     let Op::Phi { kind, entries } = op else {
         return false;
     };
@@ -72,16 +74,26 @@ fn has_one(
 {
     let mut found: Option<Operand> = None;
     for entry in entries {
-        if c.flow().reachable(entry.from) && loops.holds(l, entry.from) == inside {
+        if is_from(c, loops, l, inside, entry) {
             match found {
                 None => found = Some(entry.value),
                 Some(first) => {
-                    if !same_operand(kind, &first, &entry.value) {
+                    if !same_operand(kind, &entry.value, &first) {
                         return false;
                     }
                 }
             }
         }
     }
-    found.is_some()
+    is_found(found)
+}
+
+/// Whether an operand was found.
+fn is_found(found: Option<Operand>) -> bool
+    ensures { IsTrue result ↔ (found ≢ None) }
+{
+    match found {
+        Some(_) => true,
+        None => false,
+    }
 }

@@ -1,15 +1,16 @@
 //! What gives each value.
 
-ghost use Rattle.std.specs.Prelude.{◌≡◌, ◌<◌, ℕ, Some, Contains, length, slice_get, IfOk};
-ghost use Rattle.ir_model.specs.declared.function.Block.{Block as AnyBlock};
+ghost use Rattle.std.specs.Prelude.{◌≡◌, ◌↔◌, ℕ, Some, length, slice_get, IfOk, IsTrue};
+ghost use Rattle.ir_model.specs.Walks.{Reachable};
 ghost use Rattle.natural_loops.specs.Table.{AreLoopsOf};
+ghost use Rattle.value_view.specs.declared.row.Row.{Row as AnyRow};
 ghost use Rattle.value_view.specs.Givens.{bits, bare_row, has_nuw, has_nsw};
-ghost use Rattle.value_rows.specs.Rows.{AreRows, IsRowAt};
+ghost use Rattle.value_rows.specs.Rows.{AreRows, IsRowAt, IsGivenAt, kind_at};
 
 use crate::header_phi::phi_given;
-use ir_model::{Block, Function, Instr, IrType, Op};
+use ir_model::{Function, Instr, IrType, Op};
 use natural_loops::LoopTable;
-use scev_base::{BlockId, Width};
+use scev_base::{BlockId, ValueId, Width};
 use sqlite_items::Items;
 use ssa_check::Checked;
 use std::alloc::{AllocError, Global};
@@ -22,9 +23,17 @@ pub fn rows(alloc: Global, c: &Checked, loops: &LoopTable) -> Result<Items<Row>,
     ensures { IfOk result (λ rows. AreRows c.now.function rows) }
 {
     let f = c.function();
+    let blocks = f.blocks.as_slice();
     let mut rows = bare_rows(alloc, f)?;
-    for block in f.blocks.as_slice() {
-        note_block(c, loops, block, &mut rows);
+    for block in blocks {
+        let is_reachable = c.flow().reachable(block.id);
+        let instrs = block.instrs.as_slice();
+        for instr in instrs {
+            if let Some(v) = instr.result {
+                let bits = bits_at(f, v);
+                rows[v.0 as usize] = row_of(c, loops, block.id, is_reachable, instr, bits);
+            }
+        }
     }
     Ok(Items::from_vec(rows))
 }
@@ -32,7 +41,7 @@ pub fn rows(alloc: Global, c: &Checked, loops: &LoopTable) -> Result<Items<Row>,
 /// A row for each value, given by nothing.
 fn bare_rows(alloc: Global, f: &Function) -> Result<Vec<Row>, AllocError>
     ensures size { IfOk result (λ rows. length rows.items ≡ length f.now.values) }
-    ensures each { IfOk result (λ rows. (v : ℕ) (row : Row) → slice_get rows.items v ≡ Some row
+    ensures each { IfOk result (λ rows. (v : ℕ) (row : AnyRow) → slice_get rows.items v ≡ Some row
         → row ≡ bare_row (bits (kind_at f.now v))) }
 {
     let mut rows = Vec::new(alloc);
@@ -42,6 +51,16 @@ fn bare_rows(alloc: Global, f: &Function) -> Result<Vec<Row>, AllocError>
     Ok(rows)
 }
 
+/// How many bits a value has, and 0 where it is no integer.
+fn bits_at(f: &Function, v: ValueId) -> u32
+    ensures { result ≡ bits (kind_at f.now v.0) }
+{
+    match f.values.get(v.0 as usize) {
+        Some(value) => bits_of(&value.kind),
+        None => 0,
+    }
+}
+
 /// How many bits an integer has, and 0 of any other type.
 fn bits_of(kind: &IrType) -> u32
     ensures { result ≡ bits kind.now }
@@ -49,22 +68,6 @@ fn bits_of(kind: &IrType) -> u32
     match kind {
         IrType::Int(n) => *n,
         _ => 0,
-    }
-}
-
-/// Notes what the instructions of a block give. The table has their results.
-fn note_block(c: &Checked, loops: &LoopTable, block: &Block, rows: &mut Vec<Row>)
-    requires loops { AreLoopsOf c.now.function loops.now }
-    requires block { Contains c.now.function.blocks block.now }
-    requires size { length rows.old.items ≡ length c.now.function.values }
-    ensures size { length rows.new.items ≡ length rows.old.items }
-{
-    let is_reachable = c.flow().reachable(block.id);
-    for instr in block.instrs.as_slice() {
-        if let Some(v) = instr.result {
-            let bits = rows[v.0 as usize].bits;
-            rows[v.0 as usize] = row_of(c, loops, block.id, is_reachable, instr, bits);
-        }
     }
 }
 

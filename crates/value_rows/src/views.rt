@@ -16,9 +16,9 @@ use ssa_check::Checked;
 use std::alloc::{AllocError, Global};
 use value_exprs::FunctionView;
 
-/// What the classification asks of a function that is accepted, given its loops. It takes time linear in the instructions and
-/// their operands, and for each edge of a phi and each exit a step or two for each loop around it. The error comes only where
-/// there is no memory.
+/// What the classification asks of a function that is accepted, given its loops. It takes time linear in the
+/// instructions and their operands, and for each edge of a phi and each exit a step or two for each loop around it. The
+/// error comes only where there is no memory.
 pub fn view(alloc: Global, c: &Checked, loops: &LoopTable) -> Result<FunctionView, AllocError>
     requires { AreLoopsOf c.now.function loops.now }
     ensures is { IfOk result (λ view. IsViewOf c.now.function loops.now view) }
