@@ -1,5 +1,5 @@
 -- What is known of the expression of a value: it is always true of it, and in scope; so from operands to values.
-use Rattle.std.proofs.Common.{◌≡◌, ℕ, List, ◌∷◌, Option, Some, None, refl, sym, subst}
+use Rattle.std.proofs.Common.{◌≡◌, ℕ, false, List, ◌∷◌, Option, Some, None, refl, sym, subst}
 use Rattle.scev_base.specs.declared.ids.LoopId.{LoopId}
 use Rattle.scev_base.specs.declared.ids.ValueId.{ValueId}
 use Rattle.ir_model.specs.declared.function.Function.{Function}
