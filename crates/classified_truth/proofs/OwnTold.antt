@@ -57,5 +57,5 @@ module _ (signatures : Signatures) (f : Function) (made : IsWellMade f) (accepte
       bare = λ none. (((refl, tt), tt), tt);
     };
     width = atom_is_tree (row_of view v).bits
-        (atom (kind.Leaf (record { 0 = v }) (home view v)) (row_of view v).bits no_parts) (omega (arith, width.0)) refl;
+        (atom (kind.Leaf (record { 0 = v }) (home view v)) (row_of view v).bits no_parts) (omega (arith, width.0)) (refl, refl, tt);
   }
