@@ -32,7 +32,7 @@ pub(crate) enum Attempt {
 }
 
 /// The expression of a goal, if those of its operands are known.
-pub(crate) fn attempt(
+pub(crate) fn attempted(
     alloc: Global,
     view: &FunctionView,
     groups: &Groups,
