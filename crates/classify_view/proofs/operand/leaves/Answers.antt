@@ -7,8 +7,8 @@ use Rattle.classify_view.proofs.operand.leaves.Goals as goal
 use Rattle.classify_view.proofs.operand.leaves.Goals.{After-contains}
 
 not_both : (b : Bool) → not b ≡ true → b ≡ true → ⊥
-not_both true no yes = cc
-not_both false no yes = cc
+not_both true turned held_is = cc
+not_both false turned held_is = cc
 
 must_be : (b : Bool) → (not b ≡ true → ⊥) → b ≡ true
 must_be true other = refl
@@ -26,17 +26,17 @@ told c held =
     (sym (ap (λ (one : View). one.parents) c.view.view_is)) inside)
 
 holds : (c : After-contains) → c.contains.result ≡ true → HoldsPlace c
-holds c yes =
+holds c held_is =
     let inside : Contains c.args.view.now.parents c.in-Some.inner.0 c.in-Some-place.at.0 =
     subst (λ (parents : List (Option ℕ)). Contains parents c.in-Some.inner.0 c.in-Some-place.at.0)
-    (ap (λ (one : View). one.parents) c.view.view_is) (c.contains.ensures.0 yes) in
+    (ap (λ (one : View). one.parents) c.view.view_is) (c.contains.ensures.0 held_is) in
     subst (λ (o : Option LoopId). Holds c.args.view.now c.in-Some.inner.0 (number_of_loop o))
     (sym c.in-Some-place.is) inside
 
 pub returns-in-Some-place-clause-left : goal.returns-in-Some-place-clause-left
-returns-in-Some-place-clause-left c = λ no.
+returns-in-Some-place-clause-left c = λ turned.
     leaves_home c.args.view.now c.args.v.0 (number_of_loop c.args.place) c.in-Some.inner c.in-Some.ensures.home
-    (λ held. not_both c.contains.result no (told c held))
+    (λ held. not_both c.contains.result turned (told c held))
 
 pub returns-in-Some-place-clause-inside : goal.returns-in-Some-place-clause-inside
 returns-in-Some-place-clause-inside c = λ other.
