@@ -32,7 +32,7 @@ pub(crate) enum Attempt {
 }
 
 /// The expression of a goal, if those of its operands are known.
-pub(crate) fn attempt(
+pub(crate) fn attempted(
     alloc: Global,
     view: &FunctionView,
     groups: &Groups,
@@ -57,13 +57,17 @@ pub(crate) fn attempt(
     let own = own_name(alloc, arena, w, v, l)?;
     match (view.rows.as_slice()[v.0 as usize].given, l) {
         (Given::Pair(pair, left, right), _) => {
-            of_pair(alloc, view, groups, arena, memo, goal, w, own, pair, left, right)
+            of_pair(
+                alloc, view, groups, arena, memo, goal, w, own, pair, left, right,
+            )
         }
         (Given::Cast(op, bits, of), _) => {
             of_cast(alloc, view, groups, arena, memo, goal, w, own, op, bits, of)
         }
         (Given::Header(start, back), Some(l)) => {
-            header(alloc, view, groups, arena, memo, goal, w, own, l, start, back)
+            header(
+                alloc, view, groups, arena, memo, goal, w, own, l, start, back,
+            )
         }
         _ => Ok(Attempt::Done(own)),
     }

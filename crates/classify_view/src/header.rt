@@ -87,7 +87,17 @@ pub(crate) fn header(
     let Some(steps) = advance(alloc, arena, &view.nest, w, l, goal.value, next)? else {
         return Ok(Attempt::Done(own));
     };
-    match operand(alloc, view, groups, arena, memo, goal, w, outside(view, l), start)? {
+    match operand(
+        alloc,
+        view,
+        groups,
+        arena,
+        memo,
+        goal,
+        w,
+        outside(view, l),
+        start,
+    )? {
         Found::Known(first) => recurrence(alloc, arena, w, own, l, first, steps.as_slice()),
         Found::Needs(other) => Ok(Attempt::Needs(other)),
     }

@@ -1,6 +1,6 @@
 //! Expressions of operands.
 
-ghost use Rattle.std.specs.Prelude.{◌≡◌, ◌<◌, ℕ, List, Some, None, nat_eq, length, slice_index_or, IfOk, IsTrue};
+ghost use Rattle.std.specs.Prelude.{◌≡◌, ◌<◌, ℕ, List, Some, None, nat_eq, length, IfOk, IsTrue};
 ghost use Rattle.indexmap.specs.IndexMap.{get};
 ghost use Rattle.scev_arena.specs.Meaning.{tree_of};
 ghost use Rattle.scev_sums.specs.Answers.{GoesOn, IsTreeOfAt};
@@ -17,7 +17,7 @@ ghost use Rattle.classify_view.specs.Goals.{asked, IsGoal, AreInProgress, AreExp
 use crate::goal::Goal;
 use indexmap::IndexMap;
 use scev_arena::Arena;
-use scev_base::{BlockId, ExprId, LoopId, ValueId, Width};
+use scev_base::{ExprId, LoopId, ValueId, Width};
 use scev_sums::constant;
 use std::alloc::{AllocError, Global};
 use value_exprs::FunctionView;
@@ -76,7 +76,7 @@ fn known(memo: &IndexMap<u128, ExprId>, goal: Goal) -> Found
     ensures needs { (other : AnyGoal) → result ≡ found_.Needs other
         → (other ≡ goal) × (get nat_eq memo.now (key_of goal.value.0 goal.bits) ≡ None) }
 {
-    match memo.get(goal.key()) {
+    match memo.get(&goal.key()) {
         Some(id) => Found::Known(*id),
         None => Found::Needs(goal),
     }
@@ -84,21 +84,16 @@ fn known(memo: &IndexMap<u128, ExprId>, goal: Goal) -> Found
 
 /// The innermost loop in which a value is defined.
 pub(crate) fn home(view: &FunctionView, v: ValueId) -> Option<LoopId>
-    requires { v.0 < length view.now.rows }
-    ensures { result ≡ views.home view.now v.0 }
+    requires view { IsWellMade view.now }
+    requires value { v.0 < length view.now.rows }
+    ensures home { result ≡ views.home view.now v.0 }
+    ensures listed { IsListed view.now result }
 {
     match view.rows.as_slice()[v.0 as usize].block {
-        Some(b) => innermost(view, b),
-        None => None,
-    }
-}
-
-/// The innermost loop that has a block.
-fn innermost(view: &FunctionView, b: BlockId) -> Option<LoopId>
-    ensures { result ≡ slice_index_or view.now.innermost b.0 None }
-{
-    match view.innermost.as_slice().get(b.0 as usize) {
-        Some(found) => *found,
+        Some(b) => match view.innermost.as_slice().get(b.0 as usize) {
+            Some(l) => *l,
+            None => None,
+        },
         None => None,
     }
 }
