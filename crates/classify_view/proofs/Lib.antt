@@ -1,0 +1,2 @@
+pub mod PendingGoals
+pub mod Remembered

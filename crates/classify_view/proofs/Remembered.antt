@@ -1,0 +1,35 @@
+-- What is remembered stays true as the arena goes on, and as one more expression is remembered.
+use Rattle.std.proofs.Common.{◌≡◌, ℕ, ◌+◌, ◌*◌, ◌<◌, ◌==◌, List, Option, Some, None, Bool, false, nat_eq, sym, ap, ◌∙◌, subst, inl, inr, arith}
+use Rattle.std.proofs.lemmas.Bool.{cases_eq}
+use Rattle.scev_base.specs.declared.ids.ExprId.{ExprId}
+use Rattle.scev_arena.specs.declared.node.Node.{Node}
+use Rattle.scev_sums.specs.Answers.{GoesOn}
+use Rattle.scev_sums.proofs.Growth.{wide_goes_on, same_tree_goes_on}
+use Rattle.value_exprs.specs.View.{View, row_of}
+use Rattle.value_exprs.specs.Exprs.{IsExpr}
+use Rattle.value_groups.specs.Groups.{GroupsParts}
+use Rattle.classify_view.specs.Goals.{AreExprs, HasExpr, key_of}
+
+module _ (view : View) (groups : GroupsParts) where
+  pub exprs_go_on : (old new : List Node) (memo : ℕ → Option ExprId) → GoesOn old new → AreExprs view groups old memo
+      → AreExprs view groups new memo
+  exprs_go_on old new memo grows are = λ v bits id small is.
+      let h = are v bits id small is in
+      (
+        wide_goes_on old new grows (row_of view v).bits id h.0,
+        λ phis progress. subst (IsExpr view phis v) (sym (same_tree_goes_on old new grows id h.0.0)) (h.1 phis progress),
+      )
+
+  same_keys : (v bits w other : ℕ) → bits < 4096 → other < 4096 → key_of v bits ≡ key_of w other
+      → (v ≡ w) × (bits ≡ other)
+  same_keys v bits w other small small' same = (omega (arith, small, small', same), omega (arith, small, small', same))
+
+  -- the new one is at its own number, and the others stay at theirs
+  pub one_more_expr : (nodes : List Node) (old new : ℕ → Option ExprId) (v bits : ℕ) (id : ExprId) → bits < 4096
+      → new (key_of v bits) ≡ Some id
+      → ((k : ℕ) → nat_eq (key_of v bits) k ≡ false → new k ≡ old k)
+      → HasExpr view groups nodes v bits id
+      → AreExprs view groups nodes old
+      → AreExprs view groups nodes new
+  one_more_expr nodes old new v bits id small here others has are = λ w bits' id' small' is.
+      ?
