@@ -76,3 +76,27 @@ pub record AreWaiting (view : View) (groups : GroupsParts) (memo : ℕ → Optio
       → AllPairs (λ a b. distance view made groups b < distance view made groups a) pending
   pub bottom : (memo (key_of goal.value.0 goal.bits) ≢ None)
       ⊎ ((0 < length pending) × (get_or pending 0 goal ≡ goal))
+
+module _ (view : View) (groups : GroupsParts) (goal : Goal) where
+  one_there : IsGoal view groups goal → (k : ℕ) (d : Goal) → k < 1 → IsGoal view groups (get_or (goal ∷ []) k d)
+  one_there is zero d within = is
+  one_there is (suc k) d within = absurd (omega (arith, within))
+
+  pub one_waiting : (memo : ℕ → Option ExprId) → IsGoal view groups goal → AreWaiting view groups memo goal (goal ∷ [])
+  one_waiting memo is = record {
+    goals = one_there is;
+    falling = λ made i j d low high. absurd (omega (arith, low, high));
+    bottom = inr (omega arith, refl);
+  }
+
+  module _ (memo later : ℕ → Option ExprId) (kept : (k : ℕ) → later k ≡ None → memo k ≡ None) (rest : List Goal)
+      (top : Goal) (waiting : AreWaiting view groups memo goal (rest ++ top ∷ [])) where
+    -- the top goal is reached
+    pub rest_waiting : later (key_of top.value.0 top.bits) ≢ None → AreWaiting view groups later goal rest
+    rest_waiting reached = ?
+
+    -- the top goal waits for another one
+    pub more_waiting : (other : Goal) → IsWellMade view
+        → ((made : IsWellMade view) → IsNearer view made groups later top other)
+        → AreWaiting view groups later goal ((rest ++ top ∷ []) ++ other ∷ [])
+    more_waiting other made nearer = ?

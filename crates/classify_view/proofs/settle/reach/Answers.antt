@@ -6,7 +6,12 @@ use Rattle.classify_view.proofs.Remembered.{exprs_go_on, one_more_expr}
 use Rattle.classify_view.proofs.settle.reach.Goals as goal
 
 pub returns-in_ok-insert-in-Done-clause-memo : goal.returns-in_ok-insert-in-Done-clause-memo
-returns-in_ok-insert-in-Done-clause-memo g c = let h = c.in_ok-insert-in-Done.ensures.updates in ?
+returns-in_ok-insert-in-Done-clause-memo g c =
+    one_more_expr c.args.view.now c.args.groups.now c.attempted.new.arena (get nat_eq c.args.memo.now)
+    (get nat_eq c.insert.new.self) c.key.result c.args.goal.value.0 c.args.goal.bits c.in-Done.id c.requires.goal.small
+    c.key.ensures c.in_ok-insert-in-Done.ensures.updates.0 (c.in_ok-id.ensures.done c.in-Done.id c.in-Done.is)
+    (exprs_go_on c.args.view.now c.args.groups.now c.args.arena.now c.attempted.new.arena (get nat_eq c.args.memo.now)
+    c.attempted.ensures.grows c.requires.memo)
 
 pub returns-in-Needs-clause-memo : goal.returns-in-Needs-clause-memo
 returns-in-Needs-clause-memo g c =
