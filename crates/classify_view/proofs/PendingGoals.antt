@@ -1,7 +1,8 @@
 -- Goals that wait to be reached, the bottom one first, and how many are neither remembered nor among them.
 use Rattle.std.proofs.Common.{◌≡◌, ◌≢◌, ◌⊎◌, ℕ, zero, suc, ◌+◌, ◌*◌, ◌<◌, ◌≤◌, ◌==◌, ◌&&◌, not, Bool, true, false, cond}
 use Rattle.std.proofs.Common.{List, [], ◌∷◌, ◌++◌, length, get_or, Option, Some, None, AllPairs}
-use Rattle.std.proofs.Common.{refl, sym, ap, ◌∙◌, subst, inl, inr, arith}
+use Rattle.std.proofs.Common.{refl, sym, ap, ◌∙◌, subst}
+use Rattle.std.proofs.Common.{inl, inr, arith}
 use Rattle.std.proofs.lemmas.Bool.{cases_Bool, cases_lt, cases_eq, cond-true, cond-false}
 use Rattle.std.proofs.lemmas.List.{length_push, get_or_push, get_or_append_left}
 use Rattle.std.proofs.lemmas.List.Quantifiers.{all_pairs_push}
@@ -67,8 +68,8 @@ is_none (Some id) = false
 pub is_left : (ℕ → Option ExprId) → List Goal → ℕ → Bool
 is_left memo pending k = cond (is_none (memo k)) (not (waits pending k)) false
 
--- Goals wait, each nearer to the last ones than the one below it; the bottom one is that of the call, as long as it isn't
--- remembered.
+-- Goals wait, each nearer to the last ones than the one below it; the bottom one is that of the call, as long as it
+-- isn't remembered.
 pub record AreWaiting (view : View) (groups : GroupsParts) (memo : ℕ → Option ExprId) (goal : Goal)
     (pending : List Goal) : Type 0 where
   pub goals : (k : ℕ) (d : Goal) → k < length pending → IsGoal view groups (get_or pending k d)

@@ -1,5 +1,6 @@
 -- What is remembered stays true as the arena goes on, and as one more expression is remembered.
-use Rattle.std.proofs.Common.{◌≡◌, ℕ, ◌+◌, ◌*◌, ◌<◌, ◌==◌, List, Option, Some, None, Bool, true, false, cond, nat_eq, sym, ap, ◌∙◌, subst, inl, inr, arith}
+use Rattle.std.proofs.Common.{◌≡◌, ℕ, ◌+◌, ◌*◌, ◌<◌, ◌==◌, List, Option, Some, None, Bool}
+use Rattle.std.proofs.Common.{true, false, cond, nat_eq, sym, ap, ◌∙◌, subst, inl, inr, arith}
 use Rattle.std.proofs.lemmas.Bool.{cases_Bool, cond-true, cond-false}
 use Rattle.scev_base.specs.declared.ids.ExprId.{ExprId}
 use Rattle.scev_arena.specs.declared.node.Node.{Node}
@@ -21,7 +22,8 @@ module _ (view : View) (groups : GroupsParts) where
       let h = are v bits id small is in
       (
         wide_goes_on old new grows (row_of view v).bits id h.0,
-        λ phis progress. subst (IsExpr view phis v) (sym (same_tree_goes_on old new grows id h.0.0)) (h.1 phis progress),
+        λ phis progress.
+            subst (IsExpr view phis v) (sym (same_tree_goes_on old new grows id h.0.0)) (h.1 phis progress),
       )
 
   same_keys : (v bits w other : ℕ) → bits < 4096 → other < 4096 → key_of v bits ≡ key_of w other

@@ -15,9 +15,9 @@ use std::alloc::{AllocError, Global};
 use value_exprs::FunctionView;
 use value_groups::groups_of;
 
-/// For each value of a function its expression with no phi in progress, None where it is no integer of 1 to 64 bits. Each pair
-/// of a value and a set of phis in progress that is asked for is worked out once, which is one step. The arena only goes on.
-/// The error comes only where there is no memory.
+/// For each value of a function its expression with no phi in progress, None where it is no integer of 1 to 64 bits.
+/// Each pair of a value and a set of phis in progress that is asked for is worked out once, which is one step. The
+/// arena only goes on. The error comes only where there is no memory.
 pub fn expressions<L>(
     alloc: Global,
     view: &FunctionView,
