@@ -13,11 +13,11 @@ use scev_base::{ExprId, Steps, ValueId, Width};
 use sqlite_items::Items;
 use std::alloc::{AllocError, Global};
 use value_exprs::FunctionView;
-use value_groups::groups;
+use value_groups::groups_of;
 
-/// For each value of a function its expression with no phi in progress, None where it is no integer of 1 to 64 bits. Each pair
-/// of a value and a set of phis in progress that is asked for is worked out once, which is one step. The arena only goes on.
-/// The error comes only where there is no memory.
+/// For each value of a function its expression with no phi in progress, None where it is no integer of 1 to 64 bits.
+/// Each pair of a value and a set of phis in progress that is asked for is worked out once, which is one step. The
+/// arena only goes on. The error comes only where there is no memory.
 pub fn expressions<L>(
     alloc: Global,
     view: &FunctionView,
@@ -30,7 +30,7 @@ pub fn expressions<L>(
     ensures each { IfOk result (λ ids. (v : ℕ) (id : Option ExprId) → slice_get ids v ≡ Some id
         → IsEntry view.now arena.new v id) }
 {
-    let groups = groups(alloc, view)?;
+    let groups = groups_of(alloc, view)?;
     let mut memo: IndexMap<u128, ExprId> = IndexMap::new(alloc);
     let mut ids = Items::new(alloc);
     for v in 0..view.rows.len() {
@@ -38,7 +38,7 @@ pub fn expressions<L>(
             Some(_) => {
                 let goal = Goal::alone(ValueId(v as u64));
                 settle(alloc, view, &groups, arena, &mut memo, steps, goal)?;
-                memo.get(goal.key()).copied()
+                memo.get(&goal.key()).copied()
             }
             None => None,
         };
