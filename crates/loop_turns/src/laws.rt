@@ -14,8 +14,9 @@ ghost use Rattle.loop_turns.specs.Since.{NoTurnSince};
 
 /// Wherever a run stands in the block of a use, the value's definition was entered, and since then no loop that has
 /// the definition has begun a turn. So between a definition and its use no loop that holds both begins a new turn;
-/// and where an operand leaves a loop, its last definition falls in the last turn of that loop's last entry. The
-/// use of a phi's operand is in the block that the entry is from.
+/// and where an operand leaves a loop, its last definition falls in the last turn of that loop's last entry. A
+/// definition in the block of the use stands before it. The use of a phi's operand is at the end of the block that the
+/// entry is from.
 pub fn no_turn_before_a_use()
     ensures held { (signatures : Signatures) (f : Function) (l : Loop) (k : ℕ) (use_ : Use) (d : BlockId) (i : ℕ)
         (r : Run f) → IsAccepted signatures f → IsLoop f l

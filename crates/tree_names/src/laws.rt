@@ -14,8 +14,9 @@ ghost use Rattle.scev_forms.specs.Quotients.{tree_quotient};
 ghost use Rattle.scev_forms.specs.Minima.{tree_minimum};
 ghost use Rattle.tree_names.specs.Names.{HasOnly, HasPassing, PassesNameless, IsSame};
 
-/// What is formed names no register and no loop that its operands don't name; a recurrence names its own loop too. It
-/// is said of any test of kinds that what names nothing passes.
+/// Sums, products, truncations, extensions, quotients, minima and maxima name no register and no loop that their
+/// operands don't name, and a recurrence names its own loop besides. It is said of any test of kinds that what names
+/// nothing passes.
 pub fn formed_names()
     ensures sum { (parents : List (Option ℕ)) (w : ℕ) (left right tree : Tree) (test : Kind → Bool)
         → ((k : Kind) → PassesNameless test k) → HasPassing test left → HasPassing test right

@@ -40,7 +40,7 @@ use Rattle.value_truth.proofs.Fresh.{fresh_available}
 use Rattle.value_truth.proofs.HeldRegisters.{kept_in_run, stays_ended}
 use Rattle.value_truth.proofs.KeptSteps.{same_place}
 use Rattle.value_truth.proofs.FirstArrival.{place}
-use Rattle.value_truth.proofs.Whereabouts.{gives_there}
+use Rattle.value_truth.proofs.Fresh.{gives_there}
 
 -- a list is empty, or has a last one
 data Ended {X : Type 0} (xs : List X) : Type 0 where
@@ -69,7 +69,7 @@ module _ (signatures : Signatures) (f : Function) (made : IsWellMade f) (accepte
       → slice_get there.instrs k ≡ Some other → GivesTo v other → IsOwn b k other
   own_giver b k there other at stands_there gives =
       let same = same_place (record { 0 = b }) d k i
-      (sym (gives_there signatures f made accepted b k there other v at stands_there gives) ∙ is) in
+      (sym (gives_there signatures f accepted b k there other v at stands_there gives) ∙ is) in
       let one : there ≡ block = same_Some there block (sym at ∙ ap (λ (c : ℕ). block_of f c) same.0 ∙ found) in
       record {
         block_is = same.0;

@@ -1,6 +1,5 @@
--- Just after it is defined a value is available.
-use Rattle.std.proofs.Common.{◌≡◌, ℕ, ◌<◌, ◌==◌, Some, slice_get, sym}
-use Rattle.std.proofs.Common.{subst, inl, inr, arith}
+-- What an instruction gives is defined there, and just after that it is available.
+use Rattle.std.proofs.Common.{◌≡◌, ℕ, ◌<◌, ◌==◌, Some, slice_get, refl, sym, ap, ◌∙◌, subst, inl, inr, arith}
 use Rattle.std.proofs.lemmas.Bool.{eq-eqb}
 use Rattle.std.proofs.lemmas.List.Folds.{list_any-from_Any}
 use Rattle.std.proofs.lemmas.Option.{slice_get_within}
@@ -16,22 +15,31 @@ use Rattle.ir_meaning.specs.Run.{GivesTo, IsFresh}
 use Rattle.ir_meaning.proofs.ListPlaces.{some_at}
 use Rattle.ir_meaning.proofs.LeadingPhis.{leading_at}
 use Rattle.never_stuck.proofs.Accepted.{block_in}
+use Rattle.ssa_check.specs.declared.definitions.Definition.TheVariants.{At}
+use Rattle.ssa_check.specs.Tables.{definition_of}
 use Rattle.ssa_check.proofs.Elements.{place_in}
 use Rattle.ssa_check.proofs.Limited.{no_duplicate}
 use Rattle.ssa_check.proofs.OnceDefined.{defined_there}
 use Rattle.value_truth.specs.Available.{IsAvailable}
-use Rattle.value_truth.proofs.FirstArrival.{place}
+use Rattle.value_truth.proofs.FirstArrival.{at_passed}
 
 module _ (signatures : Signatures) (f : Function) (accepted : IsAccepted signatures f) where
-  -- behind the instruction that gives a value it is available
-  pub behind_its_instr : (b : ℕ) (block : Block) (i index : ℕ) (instr : Instr) (v : ℕ) → block_of f b ≡ Some block
-      → slice_get block.instrs i ≡ Some instr → GivesTo v instr → i < index → IsAvailable f v b index
-  behind_its_instr b block i index instr v found stands gives behind before trail =
+  -- what an instruction of a block gives is defined there
+  pub gives_there : (b k : ℕ) (block : Block) (instr : Instr) (v : ℕ) → block_of f b ≡ Some block
+      → slice_get block.instrs k ≡ Some instr → GivesTo v instr → definition_of f v ≡ At (record { 0 = b }) k
+  gives_there b k block instr v found stands gives =
       let among = block_in f b block found in
       let at = place_in f.blocks block among.0 in
       let once = no_duplicate signatures f accepted.shape in
-      let is = defined_there f once at.0 block i instr v at.1 stands gives in
-      inr (block.id, i, (place f v block.id i is).1, inr (among.1, behind))
+      defined_there f once at.0 block k instr v at.1 stands gives
+      ∙ ap (λ (n : ℕ). At (record { 0 = n }) k) among.1
+
+  -- and behind that instruction it is available
+  pub behind_its_instr : (b : ℕ) (block : Block) (i index : ℕ) (instr : Instr) (v : ℕ) → block_of f b ≡ Some block
+      → slice_get block.instrs i ≡ Some instr → GivesTo v instr → i < index → IsAvailable f v b index
+  behind_its_instr b block i index instr v found stands gives behind before trail =
+      let is = gives_there b i block instr v found stands gives in
+      at_passed f v (record { 0 = b }) i is before b index (inr (refl, behind))
 
   pub fresh_available : (s : State) (v : ℕ) → IsFresh f s v → IsAvailable f v s.block s.place
   fresh_available s v (running, block, found, inl param) =

@@ -32,7 +32,8 @@ use Rattle.tree_names.specs.Names.{HasOnly}
 use Rattle.value_truth.specs.Available.{IsAvailable, MayName}
 use Rattle.value_truth.specs.Truth.{Holds}
 use Rattle.value_truth.proofs.FirstArrival.{passed_reachable}
-use Rattle.value_truth.proofs.Whereabouts.{gives_there, other_given, before_phis, no_header}
+use Rattle.value_truth.proofs.Fresh.{gives_there}
+use Rattle.value_truth.proofs.Whereabouts.{other_given, before_phis, no_header}
 use Rattle.value_truth.proofs.KeptNames.{holds_on}
 
 -- definitions at one place
@@ -52,7 +53,7 @@ module _ (signatures : Signatures) (f : Function) (made : IsWellMade f) (accepte
       (available : IsAvailable f v s.block s.place) where
     gives_none : (u : ℕ) → (u ≡ v) ⊎ IsAvailable f u d.0 i → GivesTo u instr → ⊥
     gives_none u (inl own) gives =
-        let there = gives_there signatures f made accepted s.block s.place block instr v found stands
+        let there = gives_there signatures f accepted s.block s.place block instr v found stands
         (subst (λ (n : ℕ). GivesTo n instr) own gives) in
         other (same_place d (record { 0 = s.block }) i s.place (sym is ∙ there))
     gives_none u (inr there) gives =
@@ -91,7 +92,7 @@ module _ (signatures : Signatures) (f : Function) (made : IsWellMade f) (accepte
         let early = slice_get_within (leading_phis block_to.instrs) k phi at in
         elim named [
           | inl own ↦
-              let there = gives_there signatures f made accepted to k block_to phi v found_to leads.0
+              let there = gives_there signatures f accepted to k block_to phi v found_to leads.0
               (subst (λ (w : ℕ). GivesTo w phi) own gives) in
               let same = same_place d (record { 0 = to }) i k (sym is ∙ there) in
               other (same.0, subst (λ (j : ℕ). j < length (leading_phis block_to.instrs)) (sym same.1) early)

@@ -1,7 +1,7 @@
 pub mod HeldRegisters
 pub mod OwnNames
-pub mod Fresh
 pub mod FirstArrival
+pub mod Fresh
 pub mod Whereabouts
 pub mod KeptNames
 pub mod KeptSteps

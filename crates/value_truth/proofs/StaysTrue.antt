@@ -50,7 +50,8 @@ use Rattle.scev_tree.specs.Tree.{Tree}
 use Rattle.value_truth.specs.Available.{IsAvailable, IsInScope}
 use Rattle.value_truth.specs.Truth.{Holds, Precedes, IsTrueAnew}
 use Rattle.value_truth.proofs.HeldRegisters.{kept_in_run, stays_ended}
-use Rattle.value_truth.proofs.Whereabouts.{gives_there, given_at_place, before_instr, before_phis, at_the_end}
+use Rattle.value_truth.proofs.Fresh.{gives_there}
+use Rattle.value_truth.proofs.Whereabouts.{given_at_place, before_instr, before_phis, at_the_end}
 use Rattle.value_truth.proofs.KeptNames.{bare_holds_on}
 use Rattle.value_truth.proofs.KeptSteps.{kept_going, kept_entering}
 
@@ -134,7 +135,7 @@ module _ (signatures : Signatures) (f : Function) (made : IsWellMade f) (accepte
     bare_gives : ((d : BlockId) (i : ℕ) → definition_of f v ≡ At d i → ⊥) → GivesTo v instr → ⊥
     bare_gives bare gives =
         bare (record { 0 = s.block }) s.place
-        (gives_there signatures f made accepted s.block s.place sound.block instr v sound.at stands gives)
+        (gives_there signatures f accepted s.block s.place sound.block instr v sound.at stands gives)
 
     module _ (x : Option Value) (memory : Memory) (events : List Event)
         (goes : effect choice s instr.op ≡ Goes x memory events)
@@ -200,7 +201,7 @@ module _ (signatures : Signatures) (f : Function) (made : IsWellMade f) (accepte
       bare_phi : ((d : BlockId) (i : ℕ) → definition_of f v ≡ At d i → ⊥) → GivenByNone (leading_phis block.instrs) v
       bare_phi bare k phi at gives =
           bare (record { 0 = to }) k
-          (gives_there signatures f made accepted to k block phi v found (leading_at block.instrs phi k at).0 gives)
+          (gives_there signatures f accepted to k block phi v found (leading_at block.instrs phi k at).0 gives)
 
       entering_bare : ((d : BlockId) (i : ℕ) → definition_of f v ≡ At d i → ⊥) → Holds loops entered v tree
       entering_bare bare =

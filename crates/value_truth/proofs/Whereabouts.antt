@@ -1,6 +1,6 @@
 -- Where a value is available, and what is given there.
-use Rattle.std.proofs.Common.{◌≡◌, ℕ, ◌+◌, ◌<◌, ◌≤◌, ◌∷◌, Some, slice_get, sym, ap}
-use Rattle.std.proofs.Common.{◌∙◌, inl, inr, arith}
+use Rattle.std.proofs.Common.{◌≡◌, ℕ, ◌+◌, ◌<◌, ◌≤◌, ◌∷◌, Some, slice_get, sym}
+use Rattle.std.proofs.Common.{inl, inr, arith}
 use Rattle.std.proofs.lemmas.Bool.{cases_lt}
 use Rattle.scev_base.specs.declared.ids.BlockId.{BlockId}
 use Rattle.ir_model.specs.declared.function.Instr.{Instr}
@@ -13,31 +13,19 @@ use Rattle.ir_model.specs.Walks.Trail.{enters as goes_along}
 use Rattle.ir_model.specs.WellMade.{IsWellMade}
 use Rattle.ir_rules.specs.Accepted.{IsAccepted}
 use Rattle.ir_meaning.specs.Run.{GivesTo}
-use Rattle.never_stuck.proofs.Accepted.{block_in}
 use Rattle.never_stuck.proofs.DefinedOnce.{given_there}
 use Rattle.ssa_check.specs.Checked.{Dominates}
 use Rattle.ssa_check.specs.declared.definitions.Definition.TheVariants.{At}
 use Rattle.ssa_check.specs.Tables.{definition_of}
-use Rattle.ssa_check.proofs.Elements.{place_in, contains_cases}
-use Rattle.ssa_check.proofs.Limited.{no_duplicate}
-use Rattle.ssa_check.proofs.OnceDefined.{defined_there}
+use Rattle.ssa_check.proofs.Elements.{contains_cases}
 use Rattle.ssa_check.proofs.Trails.{arrives}
 use Rattle.ssa_check.proofs.Dominance.{part_before}
 use Rattle.value_truth.specs.Available.{IsAvailable}
+use Rattle.value_truth.proofs.Fresh.{gives_there}
 use Rattle.value_truth.proofs.FirstArrival.{place, passed_at, at_passed, not_both}
 
 module _ (signatures : Signatures) (f : Function) (made : IsWellMade f) (accepted : IsAccepted signatures f) where
-  -- what an instruction of a block gives is defined there
-  pub gives_there : (b k : ℕ) (block : Block) (instr : Instr) (v : ℕ) → block_of f b ≡ Some block
-      → slice_get block.instrs k ≡ Some instr → GivesTo v instr → definition_of f v ≡ At (record { 0 = b }) k
-  gives_there b k block instr v found stands gives =
-      let among = block_in f b block found in
-      let at = place_in f.blocks block among.0 in
-      let once = no_duplicate signatures f accepted.shape in
-      defined_there f once at.0 block k instr v at.1 stands gives
-      ∙ ap (λ (n : ℕ). At (record { 0 = n }) k) among.1
-
-  -- and what is defined at a place an instruction there gives
+  -- what is defined at a place an instruction there gives
   pub given_at_place : (v : ℕ) (d : BlockId) (i : ℕ) (block : Block) → definition_of f v ≡ At d i
       → block_of f d.0 ≡ Some block
       → (instr : Instr) × (slice_get block.instrs i ≡ Some instr) × GivesTo v instr
@@ -50,8 +38,8 @@ module _ (signatures : Signatures) (f : Function) (made : IsWellMade f) (accepte
         → slice_get block.instrs k ≡ Some instr → GivesTo u instr → IsAvailable f v b ju → ju ≤ k
         → IsAvailable f u d.0 i → Reachable f d.0 → ⊥
     other_given b k ju block instr u found stands gives v_there before u_there reachable =
-        not_both f u v (record { 0 = b }) d k i (gives_there b k block instr u found stands gives) is ju i u_there
-        v_there (omega arith) before reachable
+        not_both f u v (record { 0 = b }) d k i (gives_there signatures f accepted b k block instr u found stands gives)
+        is ju i u_there v_there (omega arith) before reachable
 
     -- a walk that has come behind an instruction which doesn't give the value had passed the value before
     pub before_instr : (b index : ℕ) → ((d.0 ≡ b) × (i ≡ index) → ⊥) → IsAvailable f v b (index + 1)

@@ -23,5 +23,5 @@ pub fn own_names_are_true()
 /// What is always true of a value is true of it just after it is defined.
 pub fn always_is_just_after()
     ensures { (signatures : Signatures) (f : Function) (loops : List Loop) (v : ℕ) (tree : Tree)
-        → IsWellMade f → IsAccepted signatures f → IsAlwaysTrueOf f loops v tree → IsTrueOf f loops v tree }
+        → IsAccepted signatures f → IsAlwaysTrueOf f loops v tree → IsTrueOf f loops v tree }
 {}
